@@ -1,0 +1,4 @@
+pub mod Plain
+pub mod Circuit
+pub mod Numbering
+pub mod Model

@@ -1,0 +1,5 @@
+pub mod Rows
+pub mod Rule
+pub mod Every
+pub mod Penalises
+pub mod Small

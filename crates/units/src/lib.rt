@@ -1,0 +1,75 @@
+// What the numbers of this project count. An energy travels with its form, as one record of the float, its signed count of halves and the form; a gate's
+// number and a qubit's name are two types, and the one is never accepted for the other.
+// Everywhere else in the project, in tables and in contracts, a coefficient or an energy is a whole count of halves, in the 0/1 form and in the Ising form alike.
+ghost use mathlib.Core.Path.{_≡_};
+ghost use Prim.Native.Nat.{_^_, _<_};
+ghost use lib.IntN.{pos, natAbs};
+ghost use Rattle.laws.specs.Equal.{eqZ};
+ghost use Rattle.units.specs.Halves.{halvesOf, energyOf};
+ghost use Rattle.units.specs.Name.{qubit, constant, firstNew};
+
+// The form of a model: a false qubit counts 0 in the one and -1 in the other.
+pub enum Form {
+    Binary,
+    Ising,
+}
+
+// A gate's number: the place of its record in the file.
+pub struct Gate(pub u16);
+
+// A qubit's name.
+pub struct Qubit(pub u16);
+
+impl Qubit {
+    pub const FALSE: Qubit = Qubit(0);
+
+    pub const TRUE: Qubit = Qubit(1);
+
+    pub const FIRST_NEW: Qubit = Qubit(2);
+
+    // The qubit of a constant.
+    pub fn of_bool(b: bool) -> Qubit
+        ensures { λ r. ⌜ r ≡ constant b ⌝ }
+    {
+        if b { Qubit::TRUE } else { Qubit::FALSE }
+    }
+
+    // The first name that is no constant's.
+    pub fn first_new() -> Qubit
+        ensures { λ r. ⌜ r ≡ firstNew ⌝ }
+    {
+        Qubit::FIRST_NEW
+    }
+}
+
+pub struct Energy {
+    pub value: f64,
+    pub halves: i64,
+    pub form: Form,
+}
+
+// h halves, exactly.
+pub fn f64_of_halves(h: i64) -> f64
+    requires { ⌜ natAbs h < 2 ^ 53 ⌝ }
+    ensures { λ r. ⌜ r ≡ halvesOf h ⌝ }
+{
+    (h as f64) * 0.5
+}
+
+pub fn energy_of(h: i64, form: Form) -> Energy
+    requires { ⌜ natAbs h < 2 ^ 53 ⌝ }
+    ensures { λ r. ⌜ r ≡ energyOf h form ⌝ }
+{
+    let value = f64_of_halves(h);
+    Energy {
+        value,
+        halves: h,
+        form,
+    }
+}
+
+pub fn is_hit(e: Energy) -> bool
+    ensures { λ r. ⌜ r ≡ eqZ (e .halves) (pos 0) ⌝ }
+{
+    e.halves == 0
+}
