@@ -3,7 +3,7 @@
 use mathlib.Core.Path.{_≡_, refl, sym, ap, _∙_, subst}
 use mathlib.Core.Bool.{Bool, true, false, true≢false, false≢true}
 use Prim.Native.Nat.{ℕ, suc, _*_, _^_, _<_}
-use native.Mathlib.Nat.{le-of-lt, lt-of-lt-of-le, mul-assoc, mul-pos, eq-of-mul-eq-mul-right}
+use native.Mathlib.Nat.{le-of-lt, lt-of-lt-of-le, mul-assoc, mul-pos, zero-mul, eq-of-mul-eq-mul-right}
 use native.Mathlib.Omega.{arith}
 use lib.IntN.{ℤ, pos, negsuc, natAbs}
 use lib.Dec.{T, lit<, lit≤, le→leb, lt→ltb}
@@ -20,13 +20,15 @@ abbrev pub negative : ℤ → Bool
 negative (pos n) = false
 negative (negsuc n) = true
 
+-- h / 2 as an f64
 abbrev pub halvesOf : ℤ → Float
 halvesOf h = round binary64 (negative h) (natAbs h) 2
 
+-- "Each energy comes back as one record: the f64, its signed count of halves, and the form."
 abbrev pub energyOf : ℤ → Form → Energy
 energyOf h form = record { value = halvesOf h; halves = h; form = form }
 
--- its value is h / 2: finite, of h's sign, and |h| / 2 in size
+-- Theorem: its value is h / 2: finite, of h's sign, and |h| / 2 in size
 pub exact : (h : ℤ) → natAbs h < 2 ^ 53 → HasValue (halvesOf h) (negative h) (natAbs h) 2
 exact h small =
     round-exact binary64 (negative h) (natAbs h) 2 (natAbs h) 1073 (lit< tt) small
@@ -80,8 +82,21 @@ same-value (inf t) h k v w = absurd v
 same-value (fin t m e) h k v w =
     signed-eq h k (sym (v .0) ∙ w .0) (eq-of-mul-eq-mul-right (down e) (down-pos e) (natAbs h) (natAbs k) (sym (v .1) ∙ w .1))
 
+-- Theorem: the float tells the count.
 pub halves-injective : (h k : ℤ) → natAbs h < 2 ^ 53 → natAbs k < 2 ^ 53 → halvesOf h ≡ halvesOf k → h ≡ k
 halves-injective h k p q e = same-value (halvesOf k) h k (subst (λ (x : Float). HasValue x (negative h) (natAbs h) 2) e (exact h p)) (exact k q)
+
+-- ---- it is never -0
+zero-size : (x d : ℕ) → 0 ≡ suc x * d → 0 < d → ⊥
+zero-size x d e h = let q : 0 < suc x = omega arith in let p : 0 < suc x * d = mul-pos q h in omega arith
+
+minus-zero : (h : ℤ) (e : ℤ) → HasValue (fin true 0 e) (negative h) (natAbs h) 2 → ⊥
+minus-zero (pos n) e v = true≢false (v .0)
+minus-zero (negsuc n) e v = zero-size n (down e) (sym (ap (λ (x : ℕ). x * 2) (zero-mul (up e))) ∙ v .1) (down-pos e)
+
+-- Theorem: no count of halves becomes -0.
+pub not-minus-zero : (h : ℤ) → natAbs h < 2 ^ 53 → (e : ℤ) → halvesOf h ≡ fin true 0 e → ⊥
+not-minus-zero h small e p = minus-zero h e (subst (λ (x : Float). HasValue x (negative h) (natAbs h) 2) p (exact h small))
 
 -- ---- samples: -1.5, 0.5, 2.5, 0
 samples : (halvesOf (negsuc 2) ≡ fin true 3 (negsuc 0)) × (halvesOf (pos 1) ≡ fin false 1 (negsuc 0)) × (halvesOf (pos 5) ≡ fin false 5 (negsuc 0)) × (halvesOf (pos 0) ≡ fin false 0 (pos 0))

@@ -42,13 +42,14 @@ impl Qubit {
     }
 }
 
+// An energy, always with its form.
 pub struct Energy {
     pub value: f64,
     pub halves: i64,
     pub form: Form,
 }
 
-// h halves, exactly.
+// h halves as a float, exactly.
 pub fn f64_of_halves(h: i64) -> f64
     requires { ⌜ natAbs h < 2 ^ 53 ⌝ }
     ensures { λ r. ⌜ r ≡ halvesOf h ⌝ }
@@ -56,6 +57,7 @@ pub fn f64_of_halves(h: i64) -> f64
     (h as f64) * 0.5
 }
 
+// The energy of h halves in a form.
 pub fn energy_of(h: i64, form: Form) -> Energy
     requires { ⌜ natAbs h < 2 ^ 53 ⌝ }
     ensures { λ r. ⌜ r ≡ energyOf h form ⌝ }
@@ -68,6 +70,7 @@ pub fn energy_of(h: i64, form: Form) -> Energy
     }
 }
 
+// "A run is a hit when the energy is 0": told by the count, never by the float.
 pub fn is_hit(e: Energy) -> bool
     ensures { λ r. ⌜ r ≡ eqZ (e .halves) (pos 0) ⌝ }
 {
