@@ -1,14 +1,14 @@
--- The float of a count of halves. `halvesOf h` is the f64 nearest to h / 2, and for |h| below 2 ^ 53 it is h / 2 exactly (`exact`).
+-- The float of a count of halves. For |h| below 2 ^ 53, which holds of every energy of this project, `halvesOf h` is h / 2 exactly (`exact`).
 -- Assumes nothing.
-use mathlib.Core.Path.{_≡_, refl, sym, ap, _∙_, subst}
+use mathlib.Core.Path.{_≡_, refl, sym, ap, _∙_, subst, subst⁻¹}
 use mathlib.Core.Bool.{Bool, true, false, true≢false, false≢true}
 use Prim.Native.Nat.{ℕ, suc, _*_, _^_, _<_}
 use native.Mathlib.Nat.{le-of-lt, lt-of-lt-of-le, mul-assoc, mul-pos, zero-mul, eq-of-mul-eq-mul-right}
 use native.Mathlib.Omega.{arith}
 use lib.IntN.{ℤ, pos, negsuc, natAbs}
-use lib.Dec.{T, lit<, lit≤, le→leb, lt→ltb}
+use lib.Dec.{lit<, lit≤}
 use lib.Pow.{shl-lt}
-use lib.Ieee.{Float, nan, inf, fin, binary64, round, mul, ofInt, ofBits, up, down, unlike, inFloat}
+use lib.Ieee.{Float, nan, inf, fin, binary64, round, mul, ofInt, ofBits, up, down, unlike}
 use lib.Ieee.Exact.{HasValue, round-exact}
 use lib.Ieee.Back.{round-whole}
 use lib.Ieee.Scale.{round-same}
@@ -20,22 +20,19 @@ abbrev pub negative : ℤ → Bool
 negative (pos n) = false
 negative (negsuc n) = true
 
--- h / 2 as an f64
-abbrev pub halvesOf : ℤ → Float
-halvesOf h = round binary64 (negative h) (natAbs h) 2
+-- 0.5
+abbrev oneHalf : Float
+oneHalf = ofBits binary64 0x3fe0_0000_0000_0000
+
+-- the f64 nearest to h, times one half
+unfoldable pub halvesOf : ℤ → Float
+halvesOf h = mul binary64 (ofInt binary64 h) oneHalf
 
 -- "Each energy comes back as one record: the f64, its signed count of halves, and the form."
 abbrev pub energyOf : ℤ → Form → Energy
 energyOf h form = record { value = halvesOf h; halves = h; form = form }
 
--- Theorem: its value is h / 2: finite, of h's sign, and |h| / 2 in size
-pub exact : (h : ℤ) → natAbs h < 2 ^ 53 → HasValue (halvesOf h) (negative h) (natAbs h) 2
-exact h small =
-    round-exact binary64 (negative h) (natAbs h) 2 (natAbs h) 1073 (lit< tt) small
-    (lt-of-lt-of-le (shl-lt 53 1073 small) (lit≤ tt))
-    (sym (mul-assoc (natAbs h) (2 ^ 1073) 2))
-
--- ---- the code's `(h as f64) * 0.5`
+-- ---- it is h / 2, rounded once
 unlike-plus : (s : Bool) → unlike s false ≡ s
 unlike-plus true = refl
 unlike-plus false = refl
@@ -50,8 +47,7 @@ times-half (fin t m e) s n v =
     ∙ round-same binary64 s (m * up e * 1) (down e * 2) n 2 (mul-pos (down-pos e) (lit< tt)) (lit< tt)
     (ap (λ (x : ℕ). x * 2) (v .1) ∙ mul-assoc n (down e) 2)
 
--- 0.5
-half : ofBits binary64 0x3fe0_0000_0000_0000 ≡ fin false 1 (negsuc 0)
+half : oneHalf ≡ fin false 1 (negsuc 0)
 unfolding ofBits
 half = refl
 
@@ -60,14 +56,17 @@ unfolding ofInt
 whole (pos n) small = round-whole binary64 false n (le-of-lt small)
 whole (negsuc n) small = round-whole binary64 true (suc n) (le-of-lt small)
 
-pub times-half-is : (h : ℤ) → natAbs h < 2 ^ 53 → mul binary64 (ofInt binary64 h) (ofBits binary64 0x3fe0_0000_0000_0000) ≡ halvesOf h
-times-half-is h small = ap (mul binary64 (ofInt binary64 h)) half ∙ times-half (ofInt binary64 h) (negative h) (natAbs h) (whole h small)
+rounded-once : (h : ℤ) → natAbs h < 2 ^ 53 → halvesOf h ≡ round binary64 (negative h) (natAbs h) 2
+unfolding halvesOf
+rounded-once h small = ap (mul binary64 (ofInt binary64 h)) half ∙ times-half (ofInt binary64 h) (negative h) (natAbs h) (whole h small)
 
--- the cast loses nothing
-pub cast-exact : (h : ℤ) → natAbs h < 2 ^ 53 → T (inFloat binary64 h)
-unfolding inFloat
-cast-exact (pos n) small = le→leb n (2 ^ 53) (le-of-lt small)
-cast-exact (negsuc n) small = lt→ltb n (2 ^ 53) (le-of-lt small)
+-- Theorem: its value is h / 2: finite, of h's sign, and |h| / 2 in size.
+pub exact : (h : ℤ) → natAbs h < 2 ^ 53 → HasValue (halvesOf h) (negative h) (natAbs h) 2
+exact h small =
+    subst⁻¹ (λ (x : Float). HasValue x (negative h) (natAbs h) 2) (rounded-once h small)
+    (round-exact binary64 (negative h) (natAbs h) 2 (natAbs h) 1073 (lit< tt) small
+    (lt-of-lt-of-le (shl-lt 53 1073 small) (lit≤ tt))
+    (sym (mul-assoc (natAbs h) (2 ^ 1073) 2)))
 
 -- ---- the float tells the count: two counts with one float are equal
 signed-eq : (h k : ℤ) → negative h ≡ negative k → natAbs h ≡ natAbs k → h ≡ k
@@ -100,5 +99,5 @@ not-minus-zero h small e p = minus-zero h e (subst (λ (x : Float). HasValue x (
 
 -- ---- samples: -1.5, 0.5, 2.5, 0
 samples : (halvesOf (negsuc 2) ≡ fin true 3 (negsuc 0)) × (halvesOf (pos 1) ≡ fin false 1 (negsuc 0)) × (halvesOf (pos 5) ≡ fin false 5 (negsuc 0)) × (halvesOf (pos 0) ≡ fin false 0 (pos 0))
-unfolding round
+unfolding round halvesOf mul ofInt ofBits
 samples = (refl, refl, refl, refl)

@@ -2,8 +2,7 @@
 // number and a qubit's name are two types, and the one is never accepted for the other.
 // Everywhere else in the project, in tables and in contracts, a coefficient or an energy is a whole count of halves, in the 0/1 form and in the Ising form alike.
 ghost use mathlib.Core.Path.{_≡_};
-ghost use Prim.Native.Nat.{_^_, _<_};
-ghost use lib.IntN.{pos, natAbs};
+ghost use lib.IntN.{pos};
 ghost use Rattle.laws.specs.Equal.{eqZ};
 ghost use Rattle.units.specs.Halves.{halvesOf, energyOf};
 ghost use Rattle.units.specs.Name.{qubit, constant, firstNew};
@@ -49,17 +48,15 @@ pub struct Energy {
     pub form: Form,
 }
 
-// h halves as a float, exactly.
+// h halves as a float.
 pub fn f64_of_halves(h: i64) -> f64
-    requires { ⌜ natAbs h < 2 ^ 53 ⌝ }
     ensures { λ r. ⌜ r ≡ halvesOf h ⌝ }
 {
-    (h as f64) * 0.5
+    std::num::nearest_i64_to_f64(h) * 0.5
 }
 
 // The energy of h halves in a form.
 pub fn energy_of(h: i64, form: Form) -> Energy
-    requires { ⌜ natAbs h < 2 ^ 53 ⌝ }
     ensures { λ r. ⌜ r ≡ energyOf h form ⌝ }
 {
     let value = f64_of_halves(h);

@@ -1,21 +1,22 @@
--- `units::f64_of_halves` meets its contract: the cast loses nothing, and the product with 0.5 is exact.
+-- `units::f64_of_halves` meets its contract: the nearest float of the count, times 0.5, is what the definition says.
 -- Assumes nothing.
-use mathlib.Core.Path.{ap, sym, subst, _∙_}
-use lib.Dec.{T}
+use mathlib.Core.Path.{ap, _∙_}
 use lib.IntN.{ℤ}
-use lib.Ieee.{binary64, mul, ofInt, ofBits, inFloat}
+use lib.Ieee.{Float, binary64, mul, ofInt, ofBits}
+use borrow.Author.Needs.{needs}
 use mir.Facts.{toZ-ofZ}
-use Rattle.units.specs.Halves.{cast-exact, times-half-is}
+use Rattle.units.specs.Halves.{halvesOf}
 use Rattle.units.proofs.f64_of_halves.Statement.{statement}
 use Rattle.units.proofs.f64_of_halves.Tie as tie
 
-int-to-float-result : tie.Need-int-to-float-result
-int-to-float-result c = subst (λ (h : ℤ). T (inFloat binary64 h)) (sym (toZ-ofZ (c .before .fits .h))) (cast-exact (c .before .args .h) (c .before .pre))
+nearest-i64-to-f64-requires : tie.Need-nearest-i64-to-f64-requires
+nearest-i64-to-f64-requires c κs = search needs
 
 returns : tie.Need-returns
+unfolding halvesOf
 returns c =
-    ap (λ (h : ℤ). mul binary64 (ofInt binary64 h) (ofBits binary64 0x3fe0_0000_0000_0000)) (toZ-ofZ (c .before .fits .h))
-    ∙ times-half-is (c .before .args .h) (c .before .pre)
+    ap (λ (x : Float). mul binary64 x (ofBits binary64 0x3fe0_0000_0000_0000))
+    (c .nearest-i64-to-f64 .ensures ∙ ap (ofInt binary64) (toZ-ofZ (c .before .fits .h)))
 
 pub f64-of-halves-spec : {M : Type 1} → statement M
-f64-of-halves-spec = tie.close (tie.spec int-to-float-result returns)
+f64-of-halves-spec = tie.close (tie.spec nearest-i64-to-f64-requires returns)
