@@ -2,3 +2,8 @@ pub mod Plain
 pub mod Circuit
 pub mod Numbering
 pub mod Model
+pub mod Sized
+pub mod Stored
+pub mod Mass
+pub mod Before
+pub mod Fixing

@@ -8,7 +8,8 @@ use mathlib.Core.List.{List, [], _∷_}
 use Prim.Native.Nat.{ℕ, suc, _+_, _≤_, _<_}
 use native.Mathlib.Omega.{arith}
 use native.Mathlib.Decide.{ℕ-discrete, decLt}
-use lib.Dec.{T, eqb, eqb→eq, eqb-refl}
+use lib.Dec.{eqb}
+use borrow.Author.Tests.{eq-eqb, ne-eqb}
 use Rattle.penalty.specs.declared.Kind.{Kind}
 use Rattle.penalty.specs.Rows.{Slot, in₁, in₂, in₃, res, aux, car}
 use Rattle.penalty.specs.Rule.{isAdder, resultBy, carryBy, auxBy, obeys, Follows, obeys-join, obeys-split}
@@ -23,35 +24,13 @@ Setting = ℕ → Bool
 unfoldable pub upd : Setting → ℕ → Bool → Setting
 upd σ q b p = cond (eqb p q) b (σ p)
 
-eqb-true : (p : ℕ) → eqb p p ≡ true
-eqb-true p = is (eqb p p) (eqb-refl p)
-  where
-    is : (b : Bool) → T b → b ≡ true
-    is true t = refl
-    is false t = absurd t
-
-eqb-false : (p q : ℕ) → p ≢ q → eqb p q ≡ false
-eqb-false p q ne = is (eqb p q) (λ t. ne (eqb→eq p q t))
-  where
-    is : (b : Bool) → (T b → ⊥) → b ≡ false
-    is true f = absurd (f tt)
-    is false f = refl
-
--- by cases on a test that compares two numbers, with what each answer says
-pub by-eqb : (p q : ℕ) (P : Bool → Type 0) → (p ≡ q → P true) → (p ≢ q → P false) → P (eqb p q)
-by-eqb p q P f g = go (ℕ-discrete p q)
-  where
-    go : Dec (p ≡ q) → P (eqb p q)
-    go (yes e) = rw (e, eqb-true q) (f e)
-    go (no n) = rw (eqb-false p q n) (g n)
-
 pub upd-same : (σ : Setting) (q : ℕ) (b : Bool) → upd σ q b q ≡ b
 unfolding upd
-upd-same σ q b = rw (eqb-true q)
+upd-same σ q b = rw (eq-eqb q q refl)
 
 pub upd-other : (σ : Setting) (q : ℕ) (b : Bool) (p : ℕ) → p ≢ q → upd σ q b p ≡ σ p
 unfolding upd
-upd-other σ q b p ne = rw (eqb-false p q ne)
+upd-other σ q b p ne = rw (ne-eqb p q ne)
 
 -- ---- rows at their places
 
@@ -199,7 +178,7 @@ write-aux r σ e =
 
 module _ (r : Row) (hx : r .x < r .out) (hy : r .y < r .out) (hw : r .w < r .out) where
   -- every slot stands before the next row's names
-  wire-below : (s : Slot) → wire r s < suc (r .out + more (r .kind))
+  pub wire-below : (s : Slot) → wire r s < suc (r .out + more (r .kind))
   unfolding wire
   wire-below in₁ = omega arith
   wire-below in₂ = omega arith

@@ -1,0 +1,24 @@
+-- Tests of numbers and of ℤ, by cases: what each answer says.
+-- Assumes nothing.
+use mathlib.Core.Path.{_≡_, refl, sym, subst, ap}
+use mathlib.Core.Logic.{_≢_}
+use mathlib.Core.Bool.{Bool, true, false, _||_}
+use Prim.Native.Nat.{ℕ, _≤_, _<_}
+use native.Mathlib.Decide.{ℕ-discrete}
+use lib.Dec.{eqb, ltb}
+use borrow.Author.Tests.{eq-eqb, ne-eqb, ltb-true, ltb-false}
+
+-- by cases on a test that compares two numbers, with what each answer says
+pub by-eqb : (p q : ℕ) (P : Bool → Type 0) → (p ≡ q → P true) → (p ≢ q → P false) → P (eqb p q)
+by-eqb p q P f g = go (ℕ-discrete p q)
+  where
+    go : Dec (p ≡ q) → P (eqb p q)
+    go (yes e) = rw (eq-eqb p q e) (f e)
+    go (no n) = rw (ne-eqb p q n) (g n)
+
+pub by-ltb : (p q : ℕ) (P : Bool → Type 0) → (p < q → P true) → (q ≤ p → P false) → P (ltb p q)
+by-ltb p q P f g = go (ltb p q) refl
+  where
+    go : (b : Bool) → ltb p q ≡ b → P b
+    go true e = f (ltb-true p q e)
+    go false e = g (ltb-false p q e)
