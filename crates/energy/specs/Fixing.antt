@@ -1,10 +1,10 @@
 -- Fixing a qubit to a value keeps the energy: at a setting it is then the energy before at the setting with the qubit at the value.
 -- Assumes nothing.
-use mathlib.Core.Path.{_≡_, refl, sym, _∙_, ap, ap₂}
+use mathlib.Core.Path.{_≡_, refl, sym, _∙_, ap}
 use mathlib.Core.Logic.{_⊎_, inl, inr}
 use mathlib.Core.Bool.{Bool, true, false, cond, _&&_, _||_, and-comm}
 use mathlib.Core.List.{List, [], _∷_}
-use Prim.Native.Nat.{ℕ, zero, suc, _+_, _≤_, _<_}
+use Prim.Native.Nat.{ℕ, zero, suc, _+_, _<_}
 use native.Mathlib.Omega.{arith}
 use native.Mathlib.Nat.{zero-add}
 use native.Mathlib.Decide.{ℕ-discrete}
@@ -19,9 +19,13 @@ use Rattle.laws.specs.Test.{by-eqb}
 use Rattle.penalty.specs.declared.Penalty.{Penalty}
 use Rattle.penalty.specs.Rows.{Slot, Place, singles, twos, rowOf}
 use Rattle.energy.specs.Plain.{Setting, Row, wire, upd, upd-same, upd-other}
-use Rattle.energy.specs.Model.{Entry, Model, Sized, Inside, empty, low, high, isZero, joinLinear, joinPair, addLinear, addPair, halves, addLinears, addPairs, place, placeAll, gated, touches, neighbour, give, without, clear, fix, linearBy, pairsBy, energyBy, binaryEnergy}
+use Rattle.energy.specs.Model.{Entry, Model, Sized, Inside, empty, low, high, isZero, joinLinear, joinPair, addLinear, addPair, halves, addLinears, addPairs, place, placeAll, gated, touches, neighbour, give, without, fix, linearBy, pairsBy, energyBy, binaryEnergy}
 use Rattle.energy.specs.Sized.{sized-addLinear, sized-give, sized-fix}
 use Rattle.energy.specs.Stored.{gated-add, gated-zero, linear-same, linear-clear, addLinear-energy}
+
+-- a value's entry in the table of fixed values: 1 fixed false, 2 fixed true
+abbrev pub mark : Bool → ℕ
+mark b = cond b 2 1
 
 -- ---- what fixing leaves as it was
 
@@ -67,9 +71,9 @@ module _ (q : ℕ) (b : Bool) where
   unfolding fix
   fix-pairs m = ap (without q) (give-pairs (m .pairs) m)
 
-  pub fix-fixed : (m : Model) → fix q b m .fixed ≡ set (m .fixed) q (cond b 2 1)
+  pub fix-fixed : (m : Model) → fix q b m .fixed ≡ set (m .fixed) q (mark b)
   unfolding fix
-  fix-fixed m = ap (λ (l : List ℕ). set l q (cond b 2 1)) (give-fixed (m .pairs) m)
+  fix-fixed m = ap (λ (l : List ℕ). set l q (mark b)) (give-fixed (m .pairs) m)
 
 -- ---- the energy
 
@@ -111,11 +115,11 @@ module _ (σ : Setting) (q : ℕ) (b : Bool) where
       c = gated b (e .1)
 
       below : k < n
-      below = pick (eqb (low (e .0)) q)
+      below = pick (eqb (low (e .0)) q) (omega (arith, i .0, i .1)) (omega (arith, i .0, i .1))
         where
-          pick : (t : Bool) → cond t (high (e .0)) (low (e .0)) < n
-          pick true = i .1
-          pick false = omega (arith, i .0, i .1)
+          pick : (t : Bool) {a b : ℕ} → a < n → b < n → cond t a b < n
+          pick true h l = h
+          pick false h l = l
 
       go : (t : Bool) → ((m : Model) → Sized n m → binaryEnergy τ (give q b s m) ≡ binaryEnergy τ m +ℤ given s)
           → binaryEnergy τ (give q b s (cond t (addLinear k c m) m)) ≡ binaryEnergy τ m +ℤ (cond t (gated (τ k) c) (pos 0) +ℤ given s)
@@ -268,7 +272,7 @@ complete-same (f ∷ fs) σ h p = go (ℕ-discrete p (f .0)) (complete-same fs �
 -- what the fixes say of a qubit: 0 not fixed, 1 fixed false, 2 fixed true
 unfoldable pub fixedAt : Fixes → ℕ → ℕ
 fixedAt [] q = 0
-fixedAt (f ∷ fs) q = cond (eqb q (f .0)) (cond (f .1) 2 1) (fixedAt fs q)
+fixedAt (f ∷ fs) q = cond (eqb q (f .0)) (mark (f .1)) (fixedAt fs q)
 
 -- a value that is given yields to one that is fixed
 abbrev pub shown : ℕ → Bool → Bool
@@ -278,7 +282,7 @@ shown k b = cond (eqb k 0) b (eqb k 2)
 abbrev pub completed : List ℕ → Setting → Setting
 completed l σ q = shown (getD l q 0) (σ q)
 
-shown-fixed : (a b : Bool) → shown (cond a 2 1) b ≡ a
+shown-fixed : (a b : Bool) → shown (mark a) b ≡ a
 shown-fixed true b = refl
 shown-fixed false b = refl
 
@@ -287,24 +291,24 @@ pub complete-at : (fs : Fixes) (σ : Setting) (q : ℕ) → complete fs σ q ≡
 unfolding complete fixedAt upd
 complete-at [] σ q = refl
 complete-at (f ∷ fs) σ q =
-    by-eqb q (f .0) (λ b. cond b (f .1) (complete fs σ q) ≡ shown (cond b (cond (f .1) 2 1) (fixedAt fs q)) (σ q))
+    by-eqb q (f .0) (λ b. cond b (f .1) (complete fs σ q) ≡ shown (cond b (mark (f .1)) (fixedAt fs q)) (σ q))
     (λ e. sym (shown-fixed (f .1) (σ q)))
     (λ n. complete-at fs σ q)
 
 -- what comes later says nothing else of the same qubit
-fixedAt-same : (q : ℕ) (b : Bool) (fs : Fixes) → SameAt q b fs → (fixedAt fs q ≡ 0) ⊎ (fixedAt fs q ≡ cond b 2 1)
+fixedAt-same : (q : ℕ) (b : Bool) (fs : Fixes) → SameAt q b fs → (fixedAt fs q ≡ 0) ⊎ (fixedAt fs q ≡ mark b)
 unfolding fixedAt
 fixedAt-same q b [] s = inl refl
 fixedAt-same q b (f ∷ fs) s =
-    by-eqb q (f .0) (λ t. (cond t (cond (f .1) 2 1) (fixedAt fs q) ≡ 0) ⊎ (cond t (cond (f .1) 2 1) (fixedAt fs q) ≡ cond b 2 1))
-    (λ e. inr (ap (λ (x : Bool). cond x 2 1) (s .0 (sym e))))
+    by-eqb q (f .0) (λ t. (cond t (mark (f .1)) (fixedAt fs q) ≡ 0) ⊎ (cond t (mark (f .1)) (fixedAt fs q) ≡ mark b))
+    (λ e. inr (ap mark (s .0 (sym e))))
     (λ n. fixedAt-same q b fs (s .1))
 
 -- a later 0 leaves the entry, and so does the same value once more
 abbrev over : ℕ → ℕ → ℕ
 over k l = cond (eqb k 0) l k
 
-over-same : (k : ℕ) (b : Bool) → (k ≡ 0) ⊎ (k ≡ cond b 2 1) → (l : ℕ) → over k (cond b 2 1) ≡ over (cond b 2 1) l
+over-same : (k : ℕ) (b : Bool) → (k ≡ 0) ⊎ (k ≡ mark b) → (l : ℕ) → over k (mark b) ≡ over (mark b) l
 over-same k true (inl e) l = rw e
 over-same k false (inl e) l = rw e
 over-same k true (inr e) l = rw e
@@ -319,7 +323,7 @@ fixed-over n (f ∷ fs) m z q h o =
     ∙ rw (fix-fixed (f .0) (f .1) m) (go (ℕ-discrete q (f .0)))
   where
     k : ℕ
-    k = cond (f .1) 2 1
+    k = mark (f .1)
 
     go : Dec (q ≡ f .0) → over (fixedAt fs q) (getD (set (m .fixed) (f .0) k) q 0) ≡ over (cond (eqb q (f .0)) k (fixedAt fs q)) (getD (m .fixed) q 0)
     go (yes e) =
@@ -350,7 +354,7 @@ pub fixedAt-none : (fs : Fixes) (q : ℕ) → ((b : Bool) → Says fs q b → �
 unfolding fixedAt
 fixedAt-none [] q u = refl
 fixedAt-none (f ∷ fs) q u =
-    by-eqb q (f .0) (λ t. cond t (cond (f .1) 2 1) (fixedAt fs q) ≡ 0)
+    by-eqb q (f .0) (λ t. cond t (mark (f .1)) (fixedAt fs q) ≡ 0)
     (λ e. absurd (u (f .1) (inl (sym e, refl))))
     (λ n. fixedAt-none fs q (λ b s. u b (inr s)))
 
@@ -360,13 +364,13 @@ same-says q b c (f ∷ fs) s (inl i) = sym (i .1) ∙ s .0 (i .0)
 same-says q b c (f ∷ fs) s (inr i) = same-says q b c fs (s .1) i
 
 -- and where they say a value, it is fixed at that value
-pub fixedAt-says : (fs : Fixes) (q : ℕ) (b : Bool) → OneValue fs → Says fs q b → fixedAt fs q ≡ cond b 2 1
+pub fixedAt-says : (fs : Fixes) (q : ℕ) (b : Bool) → OneValue fs → Says fs q b → fixedAt fs q ≡ mark b
 unfolding fixedAt
 fixedAt-says [] q b o i = absurd i
 fixedAt-says (f ∷ fs) q b o (inl i) = rw (eq-eqb q (f .0) (sym (i .0)), i .1)
 fixedAt-says (f ∷ fs) q b o (inr i) =
-    by-eqb q (f .0) (λ t. cond t (cond (f .1) 2 1) (fixedAt fs q) ≡ cond b 2 1)
-    (λ e. ap (λ (x : Bool). cond x 2 1) (sym (same-says (f .0) (f .1) b fs (o .0) (rw e at i))))
+    by-eqb q (f .0) (λ t. cond t (mark (f .1)) (fixedAt fs q) ≡ mark b)
+    (λ e. ap mark (sym (same-says (f .0) (f .1) b fs (o .0) (rw e at i))))
     (λ n. fixedAt-says fs q b (o .1) i)
 
 -- ---- placing fixes nothing

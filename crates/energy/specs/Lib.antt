@@ -7,3 +7,9 @@ pub mod Stored
 pub mod Mass
 pub mod Before
 pub mod Fixing
+pub mod Ising
+pub mod Finished
+pub mod Lists
+pub mod Clash
+pub mod Samples
+pub mod Count

@@ -1,19 +1,20 @@
 -- Every step of the build keeps the tables' size, and every pair is of two qubits of the model, the lower first.
 -- Assumes nothing.
-use mathlib.Core.Path.{_≡_, refl, sym, _∙_, ap}
+use mathlib.Core.Path.{_≡_, refl, sym, _∙_}
 use mathlib.Core.Logic.{_⊎_, inl, inr, _≢_}
-use mathlib.Core.Bool.{Bool, true, false, cond, _||_}
+use mathlib.Core.Bool.{Bool, true, false, cond}
 use mathlib.Core.List.{List, [], _∷_, map}
 use Prim.Native.Nat.{ℕ, suc, _+_, _*_, _≤_, _<_}
 use native.Mathlib.Omega.{arith}
 use lib.Dec.{eqb, ltb}
 use lib.IntN.{ℤ, pos, _+ℤ_}
-use lib.ListN.{length, getD, set, length-set, length-replicate, length-map}
+use lib.ListN.{set, length-set, length-replicate, length-map}
+use Rattle.laws.specs.Sum.{sum}
 use Rattle.laws.specs.Test.{by-eqb, by-ltb}
 use Rattle.penalty.specs.Rows.{Slot, Place, singles, twos, rowOf}
 use Rattle.penalty.specs.declared.Penalty.{Penalty}
 use Rattle.energy.specs.Plain.{Row, wire, more, Sorted, sorted-le, wire-below}
-use Rattle.energy.specs.Model.{Entry, Model, Sized, Inside, keyOf, low, high, empty, isZero, addOffset, joinLinear, add, joinPair, addLinear, addPair, halves, addLinears, addPairs, place, placeAll, gated, touches, neighbour, give, without, clear, fix, half, quarters, ends, ising}
+use Rattle.energy.specs.Model.{Entry, Model, Sized, Inside, keyOf, low, high, empty, isZero, addOffset, joinLinear, add, joinPair, addLinear, addPair, halves, addLinears, addPairs, place, placeAll, gated, touches, neighbour, give, without, clear, fix, half, quarter, weights, quarters, ends, ising}
 
 -- ---- keys
 
@@ -95,6 +96,23 @@ inside-without n q (e ∷ s) i = go (touches q (e .0)) (inside-without n q s (i 
 pub inside-quarters : (n : ℕ) (s : List Entry) → Inside n s → Inside n (quarters s)
 inside-quarters n [] i = tt
 inside-quarters n (e ∷ s) i = (i .0, i .1, inside-quarters n s (i .2))
+
+-- ---- the Ising form in two steps: each number turned, then the pairs' ends
+
+abbrev pub turned : Model → Model
+turned m =
+    record {
+      offset = m .offset +ℤ half (sum (m .linear)) +ℤ quarter (sum (weights (m .pairs)));
+      linear = map half (m .linear);
+      hasLinear = m .hasLinear;
+      hasRow = m .hasRow;
+      fixed = m .fixed;
+      pairs = quarters (m .pairs);
+    }
+
+pub ising-turned : (m : Model) → ising m ≡ ends (quarters (m .pairs)) (turned m)
+unfolding ising
+ising-turned m = refl
 
 -- ---- the tables' size
 
@@ -222,21 +240,23 @@ module _ (n : ℕ) where
   pub sized-ends : (l : List Entry) (m : Model) → Sized n m → Sized n (ends l m)
   unfolding ends
   sized-ends [] m s = s
-  sized-ends (e ∷ l) m s = sized-ends l _ (sized-joinLinear (high (e .0)) (e .1) _ (sized-joinLinear (low (e .0)) (e .1) m s))
+  sized-ends (e ∷ l) m s = sized-ends l _ (sized-joinLinear _ (e .1) _ (sized-joinLinear _ (e .1) m s))
 
   -- the Ising form has the size of the model
-  pub sized-ising : (m : Model) → Sized n m → Sized n (ising m)
-  unfolding ising
-  sized-ising m s =
-      sized-ends (quarters (m .pairs)) _
-      (record {
+  pub sized-turned : (m : Model) → Sized n m → Sized n (turned m)
+  sized-turned m s =
+      record {
         linear = length-map (m .linear) half ∙ s .linear;
         hasLinear = s .hasLinear;
         hasRow = s .hasRow;
         fixed = s .fixed;
         inside = inside-quarters n (m .pairs) (s .inside);
         names = s .names;
-      })
+      }
+
+  pub sized-ising : (m : Model) → Sized n m → Sized n (ising m)
+  unfolding ising
+  sized-ising m s = sized-ends (quarters (m .pairs)) (turned m) (sized-turned m s)
 
 -- rows that take their names upwards below n, each after its operands, are at qubits of the model
 pub sorted-wired : (n lo : ℕ) (rs : List Row) (top : ℕ) → top ≤ n → Sorted lo rs top → Wired n rs

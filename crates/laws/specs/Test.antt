@@ -1,8 +1,8 @@
--- Tests of numbers and of ℤ, by cases: what each answer says.
+-- Tests of numbers and of Booleans, by cases: what each answer says.
 -- Assumes nothing.
-use mathlib.Core.Path.{_≡_, refl, sym, subst, ap}
+use mathlib.Core.Path.{_≡_, refl}
 use mathlib.Core.Logic.{_≢_}
-use mathlib.Core.Bool.{Bool, true, false, _||_}
+use mathlib.Core.Bool.{Bool, true, false, Bool·beq, true≢false, false≢true}
 use Prim.Native.Nat.{ℕ, _≤_, _<_}
 use native.Mathlib.Decide.{ℕ-discrete}
 use lib.Dec.{eqb, ltb}
@@ -22,3 +22,9 @@ by-ltb p q P f g = go (ltb p q) refl
     go : (b : Bool) → ltb p q ≡ b → P b
     go true e = f (ltb-true p q e)
     go false e = g (ltb-false p q e)
+
+pub by-beq : (a b : Bool) (P : Bool → Type 0) → (a ≡ b → P true) → (a ≢ b → P false) → P (Bool·beq a b)
+by-beq true true P f g = f refl
+by-beq true false P f g = g true≢false
+by-beq false true P f g = g false≢true
+by-beq false false P f g = f refl

@@ -72,41 +72,75 @@ pub record Inv (gs : List Gate) (s : State) : Type 0 where
   pub placed : (h : ℕ) → 1 ≤ slot s h → Placed s h (nodesOf gs h)
   pub taken : (q : ℕ) → 2 ≤ q → q < s .next → Taken gs s q
 
--- From s to t: a gate that has a qubit keeps it, gates from n on get none, and a name that was taken keeps its origin.
-pub record Later (n : ℕ) (s t : State) : Type 0 where
+-- From s to t: a gate that has a qubit keeps it, and a name that was taken keeps its origin.
+pub record Keeps (s t : State) : Type 0 where
   pub kept : (h : ℕ) → 1 ≤ slot s h → slot t h ≡ slot s h
+  pub names : (q : ℕ) → q < s .next → Origin t q (origin s q) (role s q)
+
+-- And gates from n on get no qubit, names only rise, and one that is free now has no origin.
+pub record Later (n : ℕ) (s t : State) : Type 0 where
+  pub keeps : Keeps s t
   pub above : (h : ℕ) → n ≤ h → slot t h ≡ slot s h
   pub rises : s .next ≤ t .next
-  pub names : (q : ℕ) → q < s .next → Origin t q (origin s q) (role s q)
+  pub beyond : (q : ℕ) → t .next ≤ q → Origin t q (origin s q) (role s q)
+  pub origins : length (t .origins) ≡ length (s .origins)
+  pub roles : length (t .roles) ≡ length (s .roles)
 
 -- from s to t: what a division that was reached since then reads is reached too
 abbrev pub Full : List Gate → State → State → Type 0
 Full gs s t = (h : ℕ) → 1 ≤ slot t h → (1 ≤ slot s h) ⊎ AllHave t (reads (nodesOf gs h))
 
+pub keeps-refl : (s : State) → Keeps s s
+keeps-refl s = record { kept = λ h a. refl; names = λ q l. record { from = refl; what = refl } }
+
 pub later-refl : (n : ℕ) (s : State) → Later n s s
 later-refl n s =
-    record { kept = λ h a. refl; above = λ h a. refl; rises = omega arith; names = λ q l. record { from = refl; what = refl } }
+    record {
+      keeps = keeps-refl s;
+      above = λ h a. refl;
+      rises = omega arith;
+      beyond = λ q l. record { from = refl; what = refl };
+      origins = refl;
+      roles = refl;
+    }
 
 pub later-wider : {m n : ℕ} {s t : State} → m ≤ n → Later m s t → Later n s t
-later-wider le w = record { kept = w .kept; above = λ h a. w .above h (omega arith); rises = w .rises; names = w .names }
+later-wider le w =
+    record {
+      keeps = w .keeps;
+      above = λ h a. w .above h (omega arith);
+      rises = w .rises;
+      beyond = w .beyond;
+      origins = w .origins;
+      roles = w .roles;
+    }
 
-origin-later : {n : ℕ} {s t : State} → Later n s t → (q g r : ℕ) → q < s .next → Origin s q g r → Origin t q g r
+origin-later : {s t : State} → Keeps s t → (q g r : ℕ) → q < s .next → Origin s q g r → Origin t q g r
 origin-later w q g r l o = record { from = w .names q l .from ∙ o .from; what = w .names q l .what ∙ o .what }
 
 pub later-trans : {m n : ℕ} {s t u : State} → m ≤ n → Later m s t → Later n t u → Later n s u
 later-trans {s = s} le w z =
     record {
-      kept = λ h a. z .kept h (rw (w .kept h a) a) ∙ w .kept h a;
+      keeps =
+          record {
+            kept = λ h a. z .keeps .kept h (rw (w .keeps .kept h a) a) ∙ w .keeps .kept h a;
+            names = λ q l. origin-later (z .keeps) q (origin s q) (role s q) (omega (arith, w .rises)) (w .keeps .names q l);
+          };
       above = λ h a. z .above h a ∙ w .above h (omega arith);
       rises = omega (arith, w .rises, z .rises);
-      names = λ q l. origin-later z q (origin s q) (role s q) (omega (arith, w .rises)) (w .names q l);
+      beyond = λ q l.
+          let o = w .beyond q (omega (arith, z .rises)) in
+          let p = z .beyond q l in
+          record { from = p .from ∙ o .from; what = p .what ∙ o .what };
+      origins = z .origins ∙ w .origins;
+      roles = z .roles ∙ w .roles;
     }
 
-pub have-later : {n : ℕ} {s t : State} → Later n s t → (xs : List ℕ) → AllHave s xs → AllHave t xs
+pub have-later : {s t : State} → Keeps s t → (xs : List ℕ) → AllHave s xs → AllHave t xs
 have-later w [] a = tt
 have-later w (x ∷ xs) a = (rw (w .kept x (a .0)) (a .0), have-later w xs (a .1))
 
-module _ {n : ℕ} {s t : State} (w : Later n s t) (below : (h : ℕ) → slot s h ≤ s .next) where
+module _ {s t : State} (w : Keeps s t) (below : (h : ℕ) → slot s h ≤ s .next) where
   took-later : (h m : ℕ) → 1 ≤ slot s h → Took s h m → Took t h m
   took-later h m has p =
       record {
@@ -155,11 +189,15 @@ zeros-set (suc x ∷ l) (suc g) q h e p = zeros-set l g q (omega arith) e p
 abbrev three : List ℕ → ℕ → ℕ → ℕ → ℕ → List ℕ
 three l n x y z = set (set (set l n x) (n + 1) y) (n + 1 + 1) z
 
-three-below : (l : List ℕ) (n x y z k : ℕ) → k < n → getD (three l n x y z) k 0 ≡ getD l k 0
-three-below l n x y z k lt =
-    getD-set-other (set (set l n x) (n + 1) y) (n + 1 + 1) k z 0 (λ e. omega arith)
-    ∙ getD-set-other (set l n x) (n + 1) k y 0 (λ e. omega arith)
-    ∙ getD-set-other l n k x 0 (λ e. omega arith)
+three-other : (l : List ℕ) (n x y z k : ℕ) → (k < n) ⊎ (n + 1 + 1 + 1 ≤ k) → getD (three l n x y z) k 0 ≡ getD l k 0
+three-other l n x y z k far =
+    getD-set-other (set (set l n x) (n + 1) y) (n + 1 + 1) k z 0 (not 2 (omega arith) (n + 1 + 1) (omega arith) far)
+    ∙ getD-set-other (set l n x) (n + 1) k y 0 (not 1 (omega arith) (n + 1) (omega arith) far)
+    ∙ getD-set-other l n k x 0 (not 0 (omega arith) n (omega arith) far)
+  where
+    not : (i : ℕ) → i ≤ 2 → (p : ℕ) → p ≡ n + i → (k < n) ⊎ (n + 1 + 1 + 1 ≤ k) → k ≡ p → ⊥
+    not i h p f (inl l) e = omega arith
+    not i h p f (inr l) e = omega arith
 
 three-first : (l : List ℕ) (n x y z : ℕ) → n + 3 ≤ length l → getD (three l n x y z) n 0 ≡ x
 three-first l n x y z fits =
@@ -222,8 +260,8 @@ module _ (gs : List Gate) (g : ℕ) (s : State) (inv : Inv gs s) (inside : g < l
   module _ (q : ℕ) (o r : List ℕ) (n : ℕ)
       (ol : length o ≡ length (s .origins)) (rl : length r ≡ length (s .roles)) (some : 1 ≤ q) (given : q ≤ n)
       (more : s .next ≤ n) (atMost : n ≤ s .next + 3)
-      (oldFrom : (x : ℕ) → x < s .next → getD o x 0 ≡ origin s x)
-      (oldRole : (x : ℕ) → x < s .next → getD r x 0 ≡ role s x)
+      (oldFrom : (x : ℕ) → (x < s .next) ⊎ (n ≤ x) → getD o x 0 ≡ origin s x)
+      (oldRole : (x : ℕ) → (x < s .next) ⊎ (n ≤ x) → getD r x 0 ≡ role s x)
       (fresh : (x : ℕ) → s .next ≤ x → x < n → Taken gs (mk (set (s .qubits) g q) o r n) x)
       (own : Placed (mk (set (s .qubits) g q) o r n) g (nodesOf gs g)) where
     abbrev after : State
@@ -238,10 +276,16 @@ module _ (gs : List Gate) (g : ℕ) (s : State) (inv : Inv gs s) (inside : g < l
     later : Later (suc g) s after
     later =
         record {
-          kept = λ h has. there h (λ e. omega (arith, ap (slot s) e));
+          keeps =
+              record {
+                kept = λ h has. there h (λ e. omega (arith, ap (slot s) e));
+                names = λ x l. record { from = oldFrom x (inl l); what = oldRole x (inl l) };
+              };
           above = λ h a. there h (λ e. omega arith);
           rises = more;
-          names = λ x l. record { from = oldFrom x l; what = oldRole x l };
+          beyond = λ x l. record { from = oldFrom x (inr l); what = oldRole x (inr l) };
+          origins = ol;
+          roles = rl;
         }
 
     below-at : (h : ℕ) → Dec (h ≡ g) → slot after h ≤ n
@@ -252,10 +296,10 @@ module _ (gs : List Gate) (g : ℕ) (s : State) (inv : Inv gs s) (inside : g < l
     placed-at h (yes e) has = rw e own
     placed-at h (no ne) has =
         let had : 1 ≤ slot s h = rw (there h ne) at has in
-        placed-later later (inv .below) h (nodesOf gs h) had (inv .placed h had)
+        placed-later (later .keeps) (inv .below) h (nodesOf gs h) had (inv .placed h had)
 
     taken-at : (x : ℕ) → 2 ≤ x → x < n → Dec (x < s .next) → Taken gs after x
-    taken-at x l u (yes a) = taken-later later (inv .below) gs x a (inv .taken x l a)
+    taken-at x l u (yes a) = taken-later (later .keeps) (inv .below) gs x a (inv .taken x l a)
     taken-at x l u (no a) = fresh x (omega arith) u
 
     marked : Went gs g s after
@@ -313,6 +357,10 @@ module _ (gs : List Gate) (g : ℕ) (s : State) (inv : Inv gs s) (inside : g < l
         getD-set-same (s .roles) (s .next) 1 0 (omega (arith, inv .roles, three-free)),
       )
 
+  one-other : (x : ℕ) → (x < s .next) ⊎ (s .next + 1 ≤ x) → x ≡ s .next → ⊥
+  one-other x (inl l) e = omega arith
+  one-other x (inr l) e = omega arith
+
   -- one name
   pub one-went : 1 ≤ size (nodesOf gs g)
       → (Took (oneName g s) g 1 → ((a : ℕ) → 1 ≤ slot s a → Under (oneName g s) a 0 g) → Placed (oneName g s) g (nodesOf gs g))
@@ -323,8 +371,8 @@ module _ (gs : List Gate) (g : ℕ) (s : State) (inv : Inv gs s) (inside : g < l
       let r : List ℕ = set (s .roles) (s .next) 1 in
       marked (s .next + 1) o r (s .next + 1)
       (length-set (s .origins) (s .next) g) (length-set (s .roles) (s .next) 1) (omega arith) (omega arith) (omega arith) (omega arith)
-      (λ x l. getD-set-other (s .origins) (s .next) x g 0 (λ e. omega arith))
-      (λ x l. getD-set-other (s .roles) (s .next) x 1 0 (λ e. omega arith))
+      (λ x l. getD-set-other (s .origins) (s .next) x g 0 (one-other x l))
+      (λ x l. getD-set-other (s .roles) (s .next) x 1 0 (one-other x l))
       (taken-new 1 (s .next + 1) o r refl one-given fits)
       (own (took-new 1 (s .next + 1) o r refl one-given) (λ a. under-new 1 (s .next + 1) o r refl one-given a 0 refl))
 
@@ -366,8 +414,8 @@ module _ (gs : List Gate) (g : ℕ) (s : State) (inv : Inv gs s) (inside : g < l
       let o : List ℕ = three (s .origins) (s .next) g g g in
       let r : List ℕ = three (s .roles) (s .next) 3 2 1 in
       marked end o r end (simp length-set) (simp length-set) (omega arith) (omega arith) (omega arith) (omega arith)
-      (λ x l. three-below (s .origins) (s .next) g g g x l)
-      (λ x l. three-below (s .roles) (s .next) 3 2 1 x l)
+      (λ x l. three-other (s .origins) (s .next) g g g x l)
+      (λ x l. three-other (s .roles) (s .next) 3 2 1 x l)
       (taken-new 3 end o r (omega arith) three-given fits)
       (own (took-new 3 end o r (omega arith) three-given) (λ a. under-new 3 end o r (omega arith) three-given a 2 refl))
 
@@ -428,7 +476,7 @@ full-trans gs s t u a w b h has = go (b h has)
   where
     early : (1 ≤ slot s h) ⊎ AllHave t (reads (nodesOf gs h)) → (1 ≤ slot s h) ⊎ AllHave u (reads (nodesOf gs h))
     early (inl x) = inl x
-    early (inr x) = inr (have-later w (reads (nodesOf gs h)) x)
+    early (inr x) = inr (have-later (w .keeps) (reads (nodesOf gs h)) x)
 
     go : (1 ≤ slot t h) ⊎ AllHave u (reads (nodesOf gs h)) → (1 ≤ slot s h) ⊎ AllHave u (reads (nodesOf gs h))
     go (inl x) = early (a h x)
@@ -448,7 +496,7 @@ module _ (gs : List Gate) where
         record {
           inv = rest .inv;
           later = later-trans (b .0) (one .later) (rest .later);
-          have = (have-later (rest .later) (x ∷ []) (one .have) .0, rest .have);
+          have = (have-later (rest .later .keeps) (x ∷ []) (one .have) .0, rest .have);
           full = full-trans gs s (v x s) (each v xs (v x s)) (one .full) (rest .later) (rest .full);
         }
 
@@ -474,7 +522,7 @@ module _ (gs : List Gate) where
           record {
             inv = rest .inv;
             later = later-trans (omega arith) (first-visited .later) (later-trans (omega arith) (took .1) (later-wider (omega arith) (rest .later)));
-            have = have-later (rest .later) (n ∷ []) (took .2, tt);
+            have = have-later (rest .later .keeps) (n ∷ []) (took .2, tt);
             full = λ h has. whole h (rest .full h has) (ℕ-discrete h n);
           }
         where
@@ -495,7 +543,7 @@ module _ (gs : List Gate) where
 
           early : (h : ℕ) → (1 ≤ slot s h) ⊎ AllHave s₁ (reads (nodesOf gs h)) → (1 ≤ slot s h) ⊎ AllHave s₃ (reads (nodesOf gs h))
           early h (inl x) = inl x
-          early h (inr x) = inr (have-later since (reads (nodesOf gs h)) x)
+          early h (inr x) = inr (have-later (since .keeps) (reads (nodesOf gs h)) x)
 
           whole : (h : ℕ) → (1 ≤ slot s₂ h) ⊎ AllHave s₃ (reads (nodesOf gs h)) → Dec (h ≡ n) → (1 ≤ slot s h) ⊎ AllHave s₃ (reads (nodesOf gs h))
           whole h (inr x) d = inr x

@@ -4,3 +4,7 @@ pub mod Numbered
 pub mod Samples
 pub mod Fuel
 pub mod Laws
+pub mod Rows
+pub mod Tables
+pub mod Finished
+pub mod Read

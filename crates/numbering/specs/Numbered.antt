@@ -96,15 +96,15 @@ abbrev pub consIf : Bool → ℕ → List ℕ → List ℕ
 consIf true x xs = x ∷ xs
 consIf false x xs = xs
 
--- the gates whose result is one of the m names from q on
-unfoldable pub resultsFrom : State → ℕ → ℕ → List ℕ
-resultsFrom s q zero = []
-resultsFrom s q (suc m) = consIf (eqb (role s q) 1) (origin s q) (resultsFrom s (suc q) m)
+-- from the origins and the roles, the gates whose result is one of the m names from q on
+unfoldable pub resultsFrom : List ℕ → List ℕ → ℕ → ℕ → List ℕ
+resultsFrom o r q zero = []
+resultsFrom o r q (suc m) = consIf (eqb (getD r q 0) 1) (getD o q 0) (resultsFrom o r (suc q) m)
 
--- of the m gates from g on, those that have a qubit and took no name: constants and carries
-unfoldable pub sharersFrom : List Gate → State → ℕ → ℕ → List ℕ
-sharersFrom gs s g zero = []
-sharersFrom gs s g (suc m) = consIf (ltb 0 (slot s g) && eqb (size (nodesOf gs g)) 0) g (sharersFrom gs s (suc g) m)
+-- from the qubits, those of the m gates from g on that have a qubit and took no name: constants and carries
+unfoldable pub sharersFrom : List Gate → List ℕ → ℕ → ℕ → List ℕ
+sharersFrom gs q g zero = []
+sharersFrom gs q g (suc m) = consIf (ltb 0 (getD q g 0) && eqb (size (nodesOf gs g)) 0) g (sharersFrom gs q (suc g) m)
 
 -- the name of the first join
 abbrev pub firstJoin : Circuit → State → ℕ
@@ -118,16 +118,20 @@ tail (x ∷ xs) = xs
 abbrev pub baseOf : List Gate → State → ℕ → ℕ
 baseOf gs s g = slot s g - size (nodesOf gs g)
 
--- what the finished tables say
-abbrev pub namedOf : Circuit → State → Named
-namedOf c s =
+-- What the tables say of gates whose names end before the name n, of all the names below `count`.
+abbrev pub namedBy : List Gate → ℕ → List ℕ → State → ℕ → ℕ → Named
+namedBy gs bad bads s n count =
     record {
-      nodes = nodesOf (c .gates);
-      bad = getD (badGates c) 0 0;
-      bads = tail (badGates c);
-      reached = resultsFrom s 2 (firstJoin c s - 2) ++ sharersFrom (c .gates) s 0 (length (c .gates));
-      base = baseOf (c .gates) s;
-      next = firstJoin c s;
-      count = s .next;
+      nodes = nodesOf gs;
+      bad = bad;
+      bads = bads;
+      reached = resultsFrom (s .origins) (s .roles) 2 (n - 2) ++ sharersFrom gs (s .qubits) 0 (length gs);
+      base = baseOf gs s;
+      next = n;
+      count = count;
       origin = origin s;
     }
+
+-- what the finished tables say
+abbrev pub namedOf : Circuit → State → Named
+namedOf c s = namedBy (c .gates) (getD (badGates c) 0 0) (tail (badGates c)) s (firstJoin c s) (s .next)

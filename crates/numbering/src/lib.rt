@@ -1,1 +1,24 @@
-// The qubits of a circuit's gates: `visit` and `process` give every reached gate its qubit. See specs/ for what that means.
+// The qubits of a circuit's gates: `visit` gives a gate's qubit or processes it, `process` visits what the gate needs and names it.
+// `kinds` says what a gate of each kind does, `naming` gives names, both outside the recursion; `walk` is the recursion.
+// What each function leaves in the tables is a definition of specs/, which follow 01 sentence by sentence.
+use units::Qubit;
+
+pub mod kinds;
+pub mod naming;
+pub mod walk;
+
+// A gate's qubit, and the next free name.
+pub struct Given {
+    pub qubit: Qubit,
+    pub next: Qubit,
+}
+
+// What a gate does with names once its operands have theirs: it has qubit 0 or 1, takes one name or three, shares its adder's carry, or took its name before.
+pub enum Act {
+    Low,
+    High,
+    One,
+    Three,
+    Share,
+    Done,
+}

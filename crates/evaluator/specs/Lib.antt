@@ -1,0 +1,5 @@
+pub mod Rules
+pub mod Need
+pub mod Give
+pub mod Ran
+pub mod Samples

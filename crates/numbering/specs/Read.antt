@@ -1,0 +1,129 @@
+-- What the code reads of the bytes, and what its contracts ask. Assumes nothing: these are definitions.
+use mathlib.Core.Path.{_≡_}
+use mathlib.Core.Bool.{Bool, true, false}
+use mathlib.Core.List.{List, [], _∷_}
+use Prim.Native.Nat.{ℕ, zero, suc, _+_, _*_, _-_, _≤_, _<_}
+use lib.ListN.{length, getD}
+use Rattle.energy.specs.Circuit.{Gate, ConstFalse, nodesOf, Before}
+use Rattle.circuit.specs.declared.GateKind.{GateKind}
+use Rattle.circuit.specs.declared.GateKind.the-variants.{ConstFalse as isFalse, ConstTrue, InputBit, Not, And, Nand, Or, Matriarch1, CarryHalfAdder, ResultHalfAdder, CarryFullAdder, ResultFullAdder, Quotient, Remainder}
+use Rattle.circuit.specs.File.{field, kindAt}
+use Rattle.circuit.specs.Meaning.{listOf, gateAt, circuitOf}
+use Rattle.numbering.specs.declared.Act.{Act}
+use Rattle.numbering.specs.declared.Act.the-variants.{Low, High, One, Three, Share, Done}
+use Rattle.numbering.specs.State.{State, mk, slot}
+use Rattle.numbering.specs.Visit.{mark, oneName, threeNames}
+use Rattle.numbering.specs.Laws.{Inv}
+
+-- ---- what a gate of each kind does
+
+-- how many of its fields it visits before it takes its name
+abbrev pub arity : GateKind → ℕ
+arity isFalse = 0
+arity ConstTrue = 0
+arity InputBit = 0
+arity Not = 1
+arity And = 2
+arity Nand = 2
+arity Or = 2
+arity Matriarch1 = 2
+arity CarryHalfAdder = 1
+arity ResultHalfAdder = 2
+arity CarryFullAdder = 1
+arity ResultFullAdder = 3
+arity Quotient = 0
+arity Remainder = 0
+
+abbrev pub actOf : GateKind → Act
+actOf isFalse = Low
+actOf ConstTrue = High
+actOf InputBit = One
+actOf Not = One
+actOf And = One
+actOf Nand = One
+actOf Or = One
+actOf Matriarch1 = One
+actOf CarryHalfAdder = Share
+actOf ResultHalfAdder = Three
+actOf CarryFullAdder = Share
+actOf ResultFullAdder = Three
+actOf Quotient = Done
+actOf Remainder = Done
+
+abbrev pub isDivision : Act → Bool
+isDivision Low = false
+isDivision High = false
+isDivision One = false
+isDivision Three = false
+isDivision Share = false
+isDivision Done = true
+
+-- what gate g does with names once its operands have their qubits: a is its first operand
+unfoldable pub finish : Act → ℕ → ℕ → State → State
+finish Low a g s = mark g 1 s
+finish High a g s = mark g 2 s
+finish One a g s = oneName g s
+finish Three a g s = threeNames g s
+finish Share a g s = mark g (slot s a - 1) s
+finish Done a g s = s
+
+-- ---- lists of gates in the bytes
+
+-- the fields i, i + 1, .. of gate g, n of them
+unfoldable pub fieldsFrom : List ℕ → ℕ → ℕ → ℕ → List ℕ
+fieldsFrom b g i zero = []
+fieldsFrom b g i (suc n) = field b g i ∷ fieldsFrom b g (i + 1) n
+
+-- the gates that the m list bits from record n on name
+unfoldable pub bitsFrom : List ℕ → ℕ → ℕ → List ℕ
+bitsFrom b n zero = []
+bitsFrom b n (suc m) = field b n 1 ∷ bitsFrom b (n + 1) m
+
+-- ---- what the contracts ask
+
+abbrev pub gatesIn : List ℕ → List Gate
+gatesIn b = circuitOf b .gates
+
+-- list number k lies from its start to the next one's
+pub record ListAt (b starts : List ℕ) (k : ℕ) : Type 0 where
+  pub small : k < 64
+  pub whole : 16 * getD starts (k + 1) 0 ≤ length b
+  pub bits : listOf b k ≡ bitsFrom b (getD starts k 0) (getD starts (k + 1) 0 - getD starts k 0)
+
+-- The gates come first, and the lists of a division lie where `starts` says.
+pub record Laid (b starts : List ℕ) : Type 0 where
+  pub whole : 16 * length (gatesIn b) ≤ length b
+  pub gates : (g : ℕ) → g < length (gatesIn b) → getD (gatesIn b) g ConstFalse ≡ gateAt b g
+  pub dividend : (g : ℕ) → g < length (gatesIn b) → isDivision (actOf (kindAt b g)) ≡ true → ListAt b starts (field b g 0)
+  pub divisor : (g : ℕ) → g < length (gatesIn b) → isDivision (actOf (kindAt b g)) ≡ true → ListAt b starts (field b g 1)
+
+-- the bytes and the tables are ready for a visit
+pub record Ready (b starts : List ℕ) (s : State) : Type 0 where
+  pub laid : Laid b starts
+  pub ordered : (g : ℕ) → Before (nodesOf (gatesIn b)) g (nodesOf (gatesIn b) g)
+  pub small : length (gatesIn b) ≤ 4000
+  pub inv : Inv (gatesIn b) s
+
+-- gate g is there and has no qubit
+pub record Fresh (b : List ℕ) (g : ℕ) (s : State) : Type 0 where
+  pub gate : g < length (gatesIn b)
+  pub none : slot s g ≡ 0
+
+-- there is an entry for gate g and there are k free names, all of which fit two bytes
+pub record Room (s : State) (g k : ℕ) : Type 0 where
+  pub gate : g < length (s .qubits)
+  pub origins : s .next + k ≤ length (s .origins)
+  pub roles : s .next + k ≤ length (s .roles)
+  pub small : s .next + k < 65536
+
+-- what the last step at a gate asks: room for three names, and of a carry that its adder has a qubit
+pub record CanFinish (act : Act) (b : List ℕ) (g : ℕ) (s : State) : Type 0 where
+  pub room : Room s g 3
+  pub whole : 16 * (g + 1) ≤ length b
+  pub gate : act ≡ Share → field b g 0 < length (s .qubits)
+  pub adder : act ≡ Share → 1 ≤ slot s (field b g 0)
+
+-- the tables are t, and q is gate g's qubit in them
+pub record Answer (g q : ℕ) (s t : State) : Type 0 where
+  pub tables : s ≡ t
+  pub qubit : q + 1 ≡ slot s g

@@ -1,0 +1,6 @@
+pub mod Paste
+pub mod Bytes
+pub mod Decimal
+pub mod Halves
+pub mod Text
+pub mod Samples
