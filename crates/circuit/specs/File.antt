@@ -107,3 +107,7 @@ isBitOf c kind k n = eqb (kindByte c n) kind && eqb (field c n 0) k
 -- the records of the bits of list or input number k, in file order: lowest first
 abbrev pub bitsOf : List ℕ → ℕ → ℕ → List ℕ
 bitsOf c kind k = those (isBitOf c kind k) 0 (records c)
+
+-- how many records are of the kinds from low to high, wherever they stand
+abbrev pub countOf : List ℕ → ℕ → ℕ → ℕ
+countOf c low high = length (placesOf c low high)

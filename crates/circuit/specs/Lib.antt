@@ -1,6 +1,14 @@
 pub mod File
 pub mod Search
+pub mod Count
 pub mod Meaning
 pub mod Form
 pub mod Passing
+pub mod Ordered
+pub mod Starts
+pub mod Refusals
+pub mod Earlier
+pub mod Partner
+pub mod Tops
+pub mod Check
 pub mod Samples

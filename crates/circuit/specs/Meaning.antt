@@ -1,6 +1,9 @@
 -- What the bytes mean: the circuit of a file. It makes sense for every byte string; check.rt says which of them are circuit files.
 -- Assumes nothing.
-use Prim.Native.Nat.{ℕ, zero, suc}
+use Prim.Native.Nat.{ℕ, zero, suc, _+_}
+use mathlib.Core.Path.{_≡_, refl}
+use native.Mathlib.Numerals.{add-one}
+use borrow.Author.Tests.{eq-eqb, ne-eqb}
 use mathlib.Core.Bool.{true}
 use mathlib.Core.List.{List, [], _∷_, map}
 use lib.Dec.{eqb}
@@ -61,6 +64,15 @@ numbersTo c kind (suc n) = consIf (eqb (kindByte c n) kind) (field c n 0) (numbe
 abbrev pub howMany : List ℕ → ℕ
 howMany [] = 0
 howMany (k ∷ ks) = suc k
+
+-- one record more: a bit's number is the last one
+pub many-bit : (c : List ℕ) (kind n : ℕ) → kindByte c n ≡ kind → howMany (numbersTo c kind (n + 1)) ≡ field c n 0 + 1
+unfolding numbersTo
+many-bit c kind n e = rw (add-one, add-one, eq-eqb (kindByte c n) kind e)
+
+pub many-other : (c : List ℕ) (kind n : ℕ) → (kindByte c n ≡ kind → ⊥) → howMany (numbersTo c kind (n + 1)) ≡ howMany (numbersTo c kind n)
+unfolding numbersTo
+many-other c kind n e = rw (add-one, ne-eqb (kindByte c n) kind e)
 
 -- the numbers from 0 on, n of them
 unfoldable pub firstNumbers : ℕ → List ℕ

@@ -1,7 +1,12 @@
 // The circuit file: records of 16 bytes, the refusals 1 to 7, and what the bytes mean. The one crate that knows how a record lies in bytes.
 // `records` reads a record's parts. What each function answers is a definition of specs/, which follow 01 sentence by sentence.
 pub mod form;
+pub mod lists;
 pub mod records;
+pub mod sizes;
+
+use units::Gate;
+use units::Qubit;
 
 // The gates, by 01's names.
 pub enum GateKind {
@@ -49,4 +54,63 @@ pub struct Passed {
     pub lists: Run,
     pub inputs: Run,
     pub nid: u64,
+}
+
+// The place of a record in the file, from 0.
+pub struct Record(pub usize);
+
+// An input's number.
+pub struct Input(pub u16);
+
+// How many records of each section a file has, and how many lists and inputs.
+pub struct Counts {
+    pub gates: usize,
+    pub list_bits: usize,
+    pub lists: usize,
+    pub bad_states: usize,
+    pub constraints: usize,
+    pub input_bits: usize,
+    pub inputs: usize,
+}
+
+// The ways to say no, by 01's numbers, each with its place. This crate gives 1 to 7.
+pub enum Refusal {
+    // 1: length is not a multiple of 16
+    Length,
+    // 2: too many records of a kind
+    TooMany,
+    // 3: a record breaks the form
+    Form(Record),
+    // 4: a gate is named that is not earlier, or that is none
+    NotEarlier(Record),
+    // 5: a carry's adder, a named list or an input bit's gate is not what it has to be
+    Partner(Record),
+    // 6: there is no bad state
+    NoBadState,
+    // 7: the tables are too short
+    Room,
+    // 8: a bad-state or constraint gate already has a qubit when its turn comes
+    HasQubit(Gate),
+    // 9: a qubit is to be fixed to two values
+    FixedTwice(Qubit),
+    // 10: the value table is shorter than the model's qubit names
+    FewValues,
+    // 11: the count of values differs from the count of inputs
+    OtherCount,
+    // 12: a listed input bit has no qubit
+    NoQubit(Gate),
+    // 13: a value is not used up by its bits
+    NotUsedUp(Input),
+    // 14: a needed division has divisor 0
+    DivisorZero(Qubit),
+    // 15: a needed InputBit is neither given nor fixed
+    NotGiven(Qubit),
+    // 17: the text buffer is shorter than the text
+    ShortText,
+}
+
+// The answer of the checks.
+pub enum Checked {
+    Accepted(Counts),
+    Refused(Refusal),
 }

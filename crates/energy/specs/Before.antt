@@ -67,6 +67,7 @@ module _ (d : Named) (m : Numbering d) (e : Choice) (σ : Setting) (ch : Chosen 
 
 -- ---- the joined qubit says whether some bad state is true
 
+-- some gate of a list is true
 abbrev pub some : (ℕ → Bool) → List ℕ → Bool
 some v [] = false
 some v (g ∷ gs) = v g || some v gs
@@ -98,10 +99,12 @@ start-free d e zero h = absurd (omega arith)
 start-free d e (suc zero) h = absurd (omega arith)
 start-free d e (suc (suc q)) h = refl
 
+-- each row in its turn, from the choice
 unfoldable pub ownRun : Named → Choice → Setting
 ownRun d e = run (rows d) (start d e)
 
 module _ (d : Named) (m : Numbering d) (e : Choice) where
+  -- the joined qubit is true exactly where some bad state is
   pub top-value : (σ : Setting) → Chosen d e σ → Obey σ (rows d) → σ (top d) ≡ some (value (d .nodes) e) (d .bad ∷ d .bads)
   top-value σ ch o =
       joined-some σ (nameIn d (d .bad)) (d .next) (map (nameIn d) (d .bads)) (obey-right σ (gateRows (d .nodes) (d .base) (d .reached)) _ o)
@@ -111,6 +114,7 @@ module _ (d : Named) (m : Numbering d) (e : Choice) where
   zero-one-free : (q : ℕ) → q < 2 → Free (rows d) q
   zero-one-free = free-below 2 (rows d) (d .count) (m .sorted)
 
+  -- the run makes the choice that it starts from
   pub own-chosen : Chosen d e (ownRun d e)
   unfolding ownRun start
   own-chosen =
@@ -123,6 +127,7 @@ module _ (d : Named) (m : Numbering d) (e : Choice) where
             ∙ ap (e .bits) (m .frees g i f .2);
       }
 
+  -- and obeys every row
   pub own-obeys : Obey (ownRun d e) (rows d)
   unfolding ownRun
   own-obeys = run-obeys 2 (rows d) (d .count) (m .sorted) (start d e)
@@ -136,8 +141,9 @@ module _ (d : Named) (m : Numbering d) (e : Choice) where
       let (g, i, n, b) = m .covered (suc (suc q)) (omega arith) h f in
       ap σ (sym b) ∙ ch .at-free g i n ∙ ap (e .bits) (sym (m .frees g i n .2) ∙ ap (d .origin) b)
 
--- ---- Theorem, before fixing
+-- ---- before fixing
 
+-- each choice has one setting of energy 0, and every other has at least 2
 pub record ExactlyOne (d : Named) (e : Choice) : Type 0 where
   -- a setting that makes the choice
   pub own : Setting
@@ -149,6 +155,7 @@ pub record ExactlyOne (d : Named) (e : Choice) : Type 0 where
   pub is-zero : plain own (rows d) ≡ 0
   pub others : (σ : Setting) → Chosen d e σ → ((q : ℕ) → q < d .count → σ q ≡ own q) ⊎ (2 ≤ plain σ (rows d))
 
+-- Theorem: the plain energy of a numbered circuit has that, for each choice.
 pub exactly-one : (d : Named) → Numbering d → (e : Choice) → ExactlyOne d e
 unfolding ownRun
 exactly-one d m e =

@@ -1,7 +1,7 @@
 -- Refusal 9: "a qubit is to be fixed to two values", given at a qubit: that of the first fix, in fixing order, that contradicts an earlier one.
 -- Assumes nothing.
 use mathlib.Core.Path.{_≡_, refl, sym, _∙_, ap}
-use mathlib.Core.Logic.{_⊎_, inl, inr, _≢_}
+use mathlib.Core.Logic.{_⊎_, inl, inr}
 use mathlib.Core.Bool.{Bool, true, false, not, _&&_, _||_, cond, Bool·beq}
 use mathlib.Core.List.{List, [], _∷_, _++_}
 use Prim.Native.Nat.{ℕ, _<_}
@@ -11,13 +11,14 @@ use lib.Dec.{eqb}
 use lib.ListN.{length, getD, set, length-set}
 use lib.Seq.{getD-set-same, getD-set-other}
 use borrow.Author.Tests.{eq-eqb, ne-eqb}
-use Rattle.laws.specs.Test.{by-eqb, by-beq}
+use Rattle.laws.specs.Test.{by-eqb, by-beq, ne-not, not-self}
 use Rattle.energy.specs.Circuit.{Constraint}
 use Rattle.energy.specs.Numbering.{Named, Numbering, rows}
 use Rattle.energy.specs.Model.{Model, fix}
 use Rattle.energy.specs.Fixing.{mark, Fixes, Within, SameAt, OneValue, Says, fix-fixed, placed-fixed}
 use Rattle.energy.specs.Finished.{Room, Known, fixes, model, sized-model, fixes-within}
 
+-- no clash, or the place of the refusal
 pub data Clash : Type 0 where
   none : Clash
   at : ℕ → Clash
@@ -32,6 +33,7 @@ unfoldable pub clashAfter : Fixes → Fixes → Clash
 clashAfter done [] = none
 clashAfter done (f ∷ fs) = cond (says done (f .0) (not (f .1))) (at (f .0)) (clashAfter (f ∷ done) fs)
 
+-- the clash of all fixes
 abbrev pub clash : Fixes → Clash
 clash fs = clashAfter [] fs
 
@@ -52,16 +54,6 @@ by-says (f ∷ fs) q b P y n =
     neither s k (inl i) = k i
     neither s k (inr i) = s i
 
-other : (a b : Bool) → a ≢ b → a ≡ not b
-other true true k = absurd (k refl)
-other true false k = refl
-other false true k = refl
-other false false k = absurd (k refl)
-
-not-both : (b : Bool) → b ≢ not b
-not-both true e = let z : _≡_ {A = ℕ} 0 1 = cc in absurd (omega arith)
-not-both false e = let z : _≡_ {A = ℕ} 0 1 = cc in absurd (omega arith)
-
 -- none of these fixes contradicts one that is done
 abbrev pub Agree : Fixes → Fixes → Type 0
 Agree done [] = Unit {0}
@@ -76,21 +68,21 @@ agree-same f done [] a = tt
 agree-same f done (g ∷ fs) a = (go, agree-same f done fs (a .1))
   where
     go : g .0 ≡ f .0 → g .1 ≡ f .1
-    go e = by-beq (g .1) (f .1) (λ t. g .1 ≡ f .1) (λ k. k) (λ k. absurd (a .0 (inl (sym e, other (f .1) (g .1) (λ h. k (sym h))))))
+    go e = by-beq (g .1) (f .1) (λ t. g .1 ≡ f .1) (λ k. k) (λ k. absurd (a .0 (inl (sym e, ne-not (f .1) (g .1) (λ h. k (sym h))))))
 
 same-agree : (f : ℕ × Bool) (done fs : Fixes) → SameAt (f .0) (f .1) fs → Agree done fs → Agree (f ∷ done) fs
 same-agree f done [] s a = tt
 same-agree f done (g ∷ fs) s a = (go, same-agree f done fs (s .1) (a .1))
   where
     go : Says (f ∷ done) (g .0) (not (g .1)) → ⊥
-    go (inl i) = not-both (g .1) (s .0 (sym (i .0)) ∙ i .1)
+    go (inl i) = not-self (g .1) (s .0 (sym (i .0)) ∙ i .1)
     go (inr i) = a .0 i
 
 agree-none : (fs : Fixes) → Agree [] fs
 agree-none [] = tt
 agree-none (f ∷ fs) = (λ i. i, agree-none fs)
 
--- ---- Theorem: there is no clash exactly when no qubit is fixed to two values
+-- ---- there is no clash exactly when no qubit is fixed to two values
 
 none-of : (done fs : Fixes) → clashAfter done fs ≡ none → Agree done fs × OneValue fs
 unfolding clashAfter
@@ -109,14 +101,17 @@ to-none done (f ∷ fs) a o =
     (λ s. absurd (a .0 s))
     (λ s. to-none (f ∷ done) fs (same-agree f done fs (o .0) (a .1)) (o .1))
 
+-- Theorem: where there is no clash, no qubit is fixed to two values,
 pub clash-none : (fs : Fixes) → clash fs ≡ none → OneValue fs
 clash-none fs e = none-of [] fs e .1
 
+-- and the other way round.
 pub one-value-clash : (fs : Fixes) → OneValue fs → clash fs ≡ none
 one-value-clash fs o = to-none [] fs (agree-none fs) o
 
--- ---- Theorem: the place is the first fix that contradicts an earlier one
+-- ---- the place is the first fix that contradicts an earlier one
 
+-- q is the qubit of the first fix that contradicts an earlier one
 pub record First (fs : Fixes) (q : ℕ) : Type 0 where
   pub earlier : Fixes
   pub value : Bool
@@ -161,6 +156,7 @@ at-of done (f ∷ fs) q e =
         go (inr (inl i)) = inl (inl i)
         go (inr (inr i)) = inr i
 
+-- Theorem: the clash is at that qubit.
 pub clash-first : (fs : Fixes) (q : ℕ) → clash fs ≡ at q → First fs q
 clash-first fs q e =
     record { earlier = r .earlier; value = r .value; later = r .later; is = r .is; agree = r .agree .1; against = go (r .against) }
@@ -225,6 +221,7 @@ clash-table l fs w z = table-after l [] fs w holds
 
 -- ---- the build's own steps: the test before each fix reads the table that the fixes before it left
 
+-- one step: the test, and the fix where it passes
 pub clash-step : (f : ℕ × Bool) (fs : Fixes) (m : Model)
     → clashIn (m .fixed) (f ∷ fs) ≡ cond (eqb (getD (m .fixed) (f .0) 0) (mark (not (f .1)))) (at (f .0)) (clashIn (fix (f .0) (f .1) m .fixed) fs)
 unfolding clashIn

@@ -1,26 +1,31 @@
--- The variable count: what it counts, that a fixed qubit is not counted, and that the Ising form has the same count.
+-- The variable count: what it counts, that it does not depend on the form, and that the energy asks for no other qubit.
 -- Assumes nothing.
 use mathlib.Core.Path.{_≡_, refl, sym, _∙_, ap, ap₂}
 use mathlib.Core.Logic.{_⊎_, inl, inr, _≢_}
-use mathlib.Core.Bool.{Bool, true, false, cond, _||_, or-true}
+use mathlib.Core.Bool.{Bool, true, false, cond, _&&_, _||_, or-true}
 use mathlib.Core.List.{List, [], _∷_}
 use Prim.Native.Nat.{ℕ, zero, suc, _+_, _<_}
 use native.Mathlib.Omega.{arith}
+use native.Mathlib.Nat.{zero-add}
 use native.Mathlib.Decide.{ℕ-discrete}
 use lib.Dec.{eqb, ltb}
 use lib.IntN.{ℤ, pos, _+ℤ_}
-use lib.ListN.{length, getD, set, length-set, List·getD-map}
+use lib.ListN.{length, getD, set, length-set}
 use lib.Seq.{getD-set-same, getD-set-other}
 use Rattle.laws.specs.Test.{by-eqb}
+use Rattle.units.specs.declared.Form.{Form}
 use Rattle.penalty.specs.declared.Penalty.{Penalty}
 use Rattle.penalty.specs.Rows.{Slot, Place, singles, twos, rowOf}
-use Rattle.energy.specs.Plain.{Row, wire}
+use Rattle.energy.specs.Plain.{Setting, Row, wire}
 use Rattle.energy.specs.Circuit.{Constraint}
 use Rattle.energy.specs.Numbering.{Named, Numbering, rows}
-use Rattle.energy.specs.Model.{Entry, Model, Sized, empty, keyOf, low, high, isZero, addOffset, joinLinear, add, joinPair, addLinear, addPair, halves, addLinears, addPairs, place, placeAll, gated, touches, neighbour, give, without, fix, half, quarters, ends, ising, counted, variables}
+use Rattle.energy.specs.Model.{Entry, Model, Sized, empty, keyOf, low, high, isZero, addOffset, joinLinear, add, joinPair, addLinear, addPair, halves, addLinears, addPairs, place, placeAll, gated, touches, neighbour, give, without, fix, quarters, ends, ising, counted, variables, pairsBy, energyBy, energyIn}
 use Rattle.energy.specs.Sized.{Wired, Ends, keyOf-ends, turned, sized-empty, sized-ising, sized-addLinears, sized-addPair, sized-addPairs, sized-addOffset}
-use Rattle.energy.specs.Fixing.{Fixes, fixAll, Says}
-use Rattle.energy.specs.Finished.{Room, fixes, model, finished, rows-wired, sized-finished}
+use Rattle.energy.specs.Fixing.{Fixes, fixAll}
+use Rattle.energy.specs.Finished.{Room, Known, fixes, model, finished, inForm, rows-wired, sized-finished, either-form}
+use Rattle.energy.specs.Stored.{Additive, gated-add, additive-zero, linear-same}
+use Rattle.energy.specs.Marks.{Mark, Marked, no-entry, built-marked}
+use Rattle.energy.specs.Gone.{Gone}
 
 -- ---- what is counted
 
@@ -49,146 +54,9 @@ unfolding tally
 tally-same zero p r h = refl
 tally-same (suc n) p r h = ap₂ (λ (b : Bool) (k : ℕ). cond b 1 0 + k) (h 0 (omega arith)) (tally-same n (λ q. p (suc q)) (λ q. r (suc q)) (λ q l. h (suc q) (omega arith)))
 
--- ---- a fixed qubit has gone: no entry, no row, no pair
-
-abbrev pub Apart : ℕ → List Entry → Type 0
-Apart q [] = Unit {0}
-Apart q (e ∷ s) = (low (e .0) ≢ q) × (high (e .0) ≢ q) × Apart q s
-
-pub record Gone (q : ℕ) (m : Model) : Type 0 where
-  pub linear : getD (m .linear) q (pos 0) ≡ pos 0
-  pub hasLinear : getD (m .hasLinear) q 0 ≡ 0
-  pub hasRow : getD (m .hasRow) q 0 ≡ 0
-  pub pairs : Apart q (m .pairs)
-
 -- what has gone is not counted
 pub gone-entered : (q : ℕ) (m : Model) → Gone q m → entered m q ≡ false
 gone-entered q m g = rw (g .hasLinear, g .hasRow)
-
-without-apart : (q : ℕ) (s : List Entry) → Apart q (without q s)
-unfolding without
-without-apart q [] = tt
-without-apart q (e ∷ s) =
-    by-eqb (low (e .0)) q (λ b. Apart q (cond (b || eqb (high (e .0)) q) (without q s) (e ∷ without q s)))
-    (λ l. without-apart q s)
-    (λ l. by-eqb (high (e .0)) q (λ b. Apart q (cond b (without q s) (e ∷ without q s))) (λ h. without-apart q s) (λ h. (l, h, without-apart q s)))
-
-apart-without : (q p : ℕ) (s : List Entry) → Apart q s → Apart q (without p s)
-unfolding without
-apart-without q p [] a = tt
-apart-without q p (e ∷ s) a = go (touches p (e .0)) (apart-without q p s (a .2))
-  where
-    go : (b : Bool) → Apart q (without p s) → Apart q (cond b (without p s) (e ∷ without p s))
-    go true r = r
-    go false r = (a .0, a .1, r)
-
--- an entry that is set to the default
-set-default : {A : Type 0} (l : List A) (i : ℕ) (d : A) → getD (set l i d) i d ≡ d
-set-default [] i d = refl
-set-default (x ∷ l) zero d = refl
-set-default (x ∷ l) (suc i) d = set-default l i d
-
-clear-at : {A : Type 0} (l : List A) (i q : ℕ) (d : A) → getD l q d ≡ d → getD (set l i d) q d ≡ d
-clear-at l i q d e = go (ℕ-discrete q i)
-  where
-    go : Dec (q ≡ i) → getD (set l i d) q d ≡ d
-    go (yes k) = rw k (set-default l i d)
-    go (no k) = getD-set-other l i q d d k ∙ e
-
-gone-joinLinear : (q p : ℕ) (c : ℤ) (m : Model) → p ≢ q → Gone q m → Gone q (joinLinear p c m)
-gone-joinLinear q p c m ne g =
-    record {
-      linear = getD-set-other (m .linear) p q _ (pos 0) (λ e. ne (sym e)) ∙ g .linear;
-      hasLinear = getD-set-other (m .hasLinear) p q 1 0 (λ e. ne (sym e)) ∙ g .hasLinear;
-      hasRow = g .hasRow;
-      pairs = g .pairs;
-    }
-
-gone-addLinear : (q p : ℕ) (c : ℤ) (m : Model) → p ≢ q → Gone q m → Gone q (addLinear p c m)
-unfolding addLinear
-gone-addLinear q p c m ne g = go (isZero c)
-  where
-    go : (b : Bool) → Gone q (cond b m (joinLinear p c m))
-    go true = g
-    go false = gone-joinLinear q p c m ne g
-
-gone-give : (q p : ℕ) (b : Bool) (s : List Entry) (m : Model) → Apart q s → Gone q m → Gone q (give p b s m)
-unfolding give
-gone-give q p b [] m a g = g
-gone-give q p b (e ∷ s) m a g = gone-give q p b s _ (a .2) (go (touches p (e .0)))
-  where
-    not-q : neighbour p (e .0) ≢ q
-    not-q = pick (eqb (low (e .0)) p)
-      where
-        pick : (t : Bool) → cond t (high (e .0)) (low (e .0)) ≢ q
-        pick true = a .1
-        pick false = a .0
-
-    go : (t : Bool) → Gone q (cond t (addLinear (neighbour p (e .0)) (gated b (e .1)) m) m)
-    go true = gone-addLinear q (neighbour p (e .0)) (gated b (e .1)) m not-q g
-    go false = g
-
--- fixing another qubit does not bring it back
-pub gone-kept : (q p : ℕ) (b : Bool) (m : Model) → Gone q m → Gone q (fix p b m)
-unfolding fix
-gone-kept q p b m g =
-    record {
-      linear = clear-at (M .linear) p q (pos 0) (h .linear);
-      hasLinear = clear-at (M .hasLinear) p q 0 (h .hasLinear);
-      hasRow = clear-at (M .hasRow) p q 0 (h .hasRow);
-      pairs = apart-without q p (M .pairs) (h .pairs);
-    }
-  where
-    M : Model
-    M = give p b (m .pairs) m
-
-    h : Gone q M
-    h = gone-give q p b (m .pairs) m (g .pairs) g
-
--- a qubit that is fixed has gone
-pub gone-fix : (q : ℕ) (b : Bool) (m : Model) → Gone q (fix q b m)
-unfolding fix
-gone-fix q b m =
-    let M : Model = give q b (m .pairs) m in
-    record {
-      linear = set-default (M .linear) q (pos 0);
-      hasLinear = set-default (M .hasLinear) q 0;
-      hasRow = set-default (M .hasRow) q 0;
-      pairs = without-apart q (M .pairs);
-    }
-
-gone-later : (q : ℕ) (fs : Fixes) (m : Model) → Gone q m → Gone q (fixAll fs m)
-unfolding fixAll
-gone-later q [] m g = g
-gone-later q (f ∷ fs) m g = gone-later q fs _ (gone-kept q (f .0) (f .1) m g)
-
--- Theorem: after all fixes, each fixed qubit has gone.
-pub gone-fixAll : (fs : Fixes) (m : Model) (q : ℕ) (b : Bool) → Says fs q b → Gone q (fixAll fs m)
-unfolding fixAll
-gone-fixAll [] m q b i = absurd i
-gone-fixAll (f ∷ fs) m q b (inl i) = gone-later q fs _ (rw (i .0) (gone-fix q (f .1) m))
-gone-fixAll (f ∷ fs) m q b (inr i) = gone-fixAll fs _ q b i
-
-gone-ends : (q : ℕ) (s : List Entry) (m : Model) → Apart q s → Gone q m → Gone q (ends s m)
-unfolding ends
-gone-ends q [] m a g = g
-gone-ends q (e ∷ s) m a g = gone-ends q s _ (a .2) (gone-joinLinear q (high (e .0)) (e .1) _ (a .1) (gone-joinLinear q (low (e .0)) (e .1) m (a .0) g))
-
-apart-quarters : (q : ℕ) (s : List Entry) → Apart q s → Apart q (quarters s)
-apart-quarters q [] a = tt
-apart-quarters q (e ∷ s) a = (a .0, a .1, apart-quarters q s (a .2))
-
--- and stays so in the Ising form
-pub gone-ising : (q : ℕ) (m : Model) → Gone q m → Gone q (ising m)
-unfolding ising
-gone-ising q m g =
-    gone-ends q (quarters (m .pairs)) (turned m) (apart-quarters q (m .pairs) (g .pairs))
-    (record {
-      linear = List·getD-map half (m .linear) q (pos 0) ∙ ap half (g .linear);
-      hasLinear = g .hasLinear;
-      hasRow = g .hasRow;
-      pairs = apart-quarters q (m .pairs) (g .pairs);
-    })
 
 -- ---- the Ising form has the same count: it makes linear entries at the ends of pairs alone, and these have a row
 
@@ -315,6 +183,7 @@ pub rowed-fix : (q : ℕ) (b : Bool) (m : Model) → AllRowed m → AllRowed (fi
 unfolding fix
 rowed-fix q b m r = let M : Model = give q b (m .pairs) m in rowed-without (M .hasRow) q (M .pairs) (rowed-give q b (m .pairs) m r)
 
+-- one fix after the other
 pub rowed-fixAll : (fs : Fixes) (m : Model) → AllRowed m → AllRowed (fixAll fs m)
 unfolding fixAll
 rowed-fixAll [] m r = r
@@ -344,15 +213,38 @@ pub ising-entered : (m : Model) → AllRowed m → (q : ℕ) → entered (ising 
 unfolding ising
 ising-entered m r q = entered-ends q (quarters (m .pairs)) (turned m) (rowed-quarters (m .hasRow) (m .pairs) r)
 
+-- so the count is the same
 pub ising-variables : (n : ℕ) (m : Model) → Sized n m → AllRowed m → variables (ising m) ≡ variables m
 ising-variables n m s r =
     variables-tally n (ising m) (sized-ising n m s)
     ∙ tally-same n (entered (ising m)) (entered m) (λ q l. ising-entered m r q)
     ∙ sym (variables-tally n m s)
 
+-- ---- the energy asks only for the qubits that are counted
+
+module _ (f : Bool → ℤ → ℤ) (fa : Additive f) (j : Bool → Bool → Bool) (σ τ : Setting) where
+  pairs-rowed : (l : List ℕ) (s : List Entry) → Rowed l s → ((q : ℕ) → getD l q 0 ≡ 1 → σ q ≡ τ q) → pairsBy f j σ s ≡ pairsBy f j τ s
+  unfolding pairsBy
+  pairs-rowed l [] r h = refl
+  pairs-rowed l (e ∷ s) r h =
+      ap₂ _+ℤ_ (ap₂ (λ (a b : Bool). f (j a b) (e .1)) (h (low (e .0)) (r .0)) (h (high (e .0)) (r .1))) (pairs-rowed l s (r .2) h)
+
+  -- Theorem: two settings that agree at the qubits with a linear entry or a row have one energy.
+  pub energy-entered : (m : Model) → Marked m → AllRowed m → ((q : ℕ) → entered m q ≡ true → σ q ≡ τ q) → energyBy f j σ m ≡ energyBy f j τ m
+  unfolding energyBy
+  energy-entered m k r h =
+      ap₂ (λ (x y : ℤ). m .offset +ℤ (x +ℤ y))
+      (linear-same f σ τ 0 (m .linear) (λ i l. go i (no-entry (m .hasLinear) (m .linear) (k .linear) i)))
+      (pairs-rowed (m .hasRow) (m .pairs) r (λ q e. h q (rw e (or-true (eqb (getD (m .hasLinear) q 0) 1)))))
+    where
+      go : (i : ℕ) → Mark (getD (m .hasLinear) i 0) (getD (m .linear) i (pos 0)) → f (σ (0 + i)) (getD (m .linear) i (pos 0)) ≡ f (τ (0 + i)) (getD (m .linear) i (pos 0))
+      go i (inl e) = rw (e .1) (additive-zero f fa (σ (0 + i)) ∙ sym (additive-zero f fa (τ (0 + i))))
+      go i (inr e) = ap (λ (b : Bool). f b (getD (m .linear) i (pos 0))) (ap σ (zero-add i) ∙ h i (rw e) ∙ ap τ (sym (zero-add i)))
+
 -- ---- of the finished model
 
 module _ (n : ℕ) (d : Named) (num : Numbering d) (room : Room n d) (cs : List Constraint) where
+  -- every pair of the finished model is of two qubits with a row
   pub finished-rowed : AllRowed (finished n d cs)
   finished-rowed =
       rowed-fixAll (fixes d cs) (model n d) (rowed-placeAll n (rows d) (rows-wired n d num room) (empty n) (sized-empty n (room .names)) tt)
@@ -361,6 +253,14 @@ module _ (n : ℕ) (d : Named) (num : Numbering d) (room : Room n d) (cs : List 
   pub finished-variables : variables (ising (finished n d cs)) ≡ variables (finished n d cs)
   finished-variables = ising-variables n (finished n d cs) (sized-finished n d num room cs) finished-rowed
 
-  -- The joined qubit, every constraint's qubit and both constants have gone from it.
-  pub finished-gone : (q : ℕ) (b : Bool) → Says (fixes d cs) q b → Gone q (finished n d cs)
-  finished-gone q b i = gone-fixAll (fixes d cs) (model n d) q b i
+  -- its marks are in order
+  pub finished-marked : Marked (finished n d cs)
+  finished-marked = built-marked n (rows d) (fixes d cs)
+
+  -- In either form its energy asks only for the qubits that are counted.
+  pub finished-asks : Known (d .reached) cs → (form : Form) (σ τ : Setting) → ((q : ℕ) → entered (finished n d cs) q ≡ true → σ q ≡ τ q)
+      → energyIn form σ (inForm form (finished n d cs)) ≡ energyIn form τ (inForm form (finished n d cs))
+  finished-asks known form σ τ h =
+      either-form n d num room cs known form σ
+      ∙ energy-entered gated gated-add _&&_ σ τ (finished n d cs) finished-marked finished-rowed h
+      ∙ sym (either-form n d num room cs known form τ)

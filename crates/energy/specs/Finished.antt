@@ -20,7 +20,8 @@ use Rattle.energy.specs.Sized.{Wired, sized-empty, sized-placeAll, sorte
 use Rattle.energy.specs.Stored.{placeAll-energy}
 use Rattle.energy.specs.Before.{Chosen, gate-value, top-value, some, ExactlyOne, exactly-one}
 use Rattle.energy.specs.Fixing.{Fixes, Within, fixAll, sized-fixAll, complete, fixAll-energy, Meets, OneValue, complete-meets, complete-same, fixedAt, fixed-table, placed-fixed}
-use Rattle.energy.specs.Ising.{ising-energy, built-fours}
+use Rattle.energy.specs.Fours.{built-fours}
+use Rattle.energy.specs.Ising.{ising-energy, ising-fixed}
 
 -- ---- the models
 
@@ -29,6 +30,7 @@ abbrev pub forced : (ℕ → ℕ) → List Constraint → Fixes
 forced nm [] = (1, true) ∷ (0, false) ∷ []
 forced nm (c ∷ cs) = (nm (c .gate), c .value) ∷ forced nm cs
 
+-- the joined qubit first
 abbrev pub fixes : Named → List Constraint → Fixes
 fixes d cs = (top d, true) ∷ forced (nameIn d) cs
 
@@ -166,6 +168,7 @@ module _ (n : ℕ) (d : Named) (num : Numbering d) (room : Room n d) where
   pub sized-model : Sized n (model n d)
   sized-model = sized-placeAll n (rows d) rows-wired (empty n) (sized-empty n (room .names))
 
+  -- fixing keeps it
   pub sized-finished : (cs : List Constraint) → Sized n (finished n d cs)
   sized-finished cs = sized-fixAll n (fixes d cs) (model n d) sized-model
 
@@ -259,17 +262,19 @@ pub record OwnRunOnly (n : ℕ) (d : Named) (e : Choice) : Type 0 where
   pub is-zero : binaryEnergy own (model n d) ≡ pos 0
   pub others : (σ : Setting) → Chosen d e σ → ((q : ℕ) → q < d .count → σ q ≡ own q) ⊎ AtLeastTwo (binaryEnergy σ (model n d))
 
+-- "exactly one setting has 0", and what follows
 pub record Demand3 (n : ℕ) (d : Named) (cs : List Constraint) : Type 0 where
   -- before fixing: each choice of the inputs, the division bits and the two constants has exactly one setting of energy 0
   pub before : (e : Choice) → OwnRunOnly n d e
   -- after fixing: a setting has the energy of that setting completed by the fixed values, which the table of fixed values holds
   pub after : (σ : Setting) → binaryEnergy σ (finished n d cs) ≡ binaryEnergy (complete (fixes d cs) σ) (model n d)
-  pub kept : (q : ℕ) → q < n → getD (finished n d cs .fixed) q 0 ≡ fixedAt (fixes d cs) q
+  pub kept : (form : Form) (q : ℕ) → q < n → getD (inForm form (finished n d cs) .fixed) q 0 ≡ fixedAt (fixes d cs) q
   -- the Ising form has the same energy
   pub same-ising : (σ : Setting) → isingEnergy σ (ising (finished n d cs)) ≡ binaryEnergy σ (finished n d cs)
   -- hence, in either form
   pub hence : (form : Form) → Reaches form n d cs ↔ Hit d cs
 
+-- Theorem: the model before fixing has that.
 pub own-run-only : (n : ℕ) (d : Named) → Numbering d → Room n d → (e : Choice) → OwnRunOnly n d e
 own-run-only n d num room e =
     record {
@@ -294,7 +299,14 @@ demand-3 n d num room cs known clear =
     record {
       before = own-run-only n d num room;
       after = after-fixing n d num room cs known;
-      kept = λ q h. fixed-table n (fixes d cs) (model n d) (sized-model n d num room) q h clear (placed-fixed n (rows d) q);
+      kept = kept;
       same-ising = finished-ising n d num room cs known;
       hence = reaches-iff n d num room cs known clear;
     }
+  where
+    table : (q : ℕ) → q < n → getD (finished n d cs .fixed) q 0 ≡ fixedAt (fixes d cs) q
+    table q h = fixed-table n (fixes d cs) (model n d) (sized-model n d num room) q h clear (placed-fixed n (rows d) q)
+
+    kept : (form : Form) (q : ℕ) → q < n → getD (inForm form (finished n d cs) .fixed) q 0 ≡ fixedAt (fixes d cs) q
+    kept Binary q h = table q h
+    kept Ising q h = ap (λ (l : List ℕ). getD l q 0) (ising-fixed (finished n d cs)) ∙ table q h

@@ -4,17 +4,18 @@ use mathlib.Core.Path.{_≡_, refl, sym, _∙_, ap}
 use mathlib.Core.Logic.{_⊎_, inl, inr}
 use mathlib.Core.Bool.{Bool, true, false, cond, _&&_, _||_, and-comm}
 use mathlib.Core.List.{List, [], _∷_}
-use Prim.Native.Nat.{ℕ, zero, suc, _+_, _<_}
+use Prim.Native.Nat.{ℕ, _+_, _<_}
 use native.Mathlib.Omega.{arith}
 use native.Mathlib.Nat.{zero-add}
 use native.Mathlib.Decide.{ℕ-discrete}
 use lib.Dec.{eqb}
 use lib.IntN.{ℤ, pos, _+ℤ_, +ℤ-idl, +ℤ-idr, +ℤ-assoc}
-use lib.ListN.{length, getD, set, replicate, length-set}
+use lib.ListN.{length, getD, set, length-set}
 use lib.Seq.{getD-set-same, getD-set-other}
 use borrow.Author.Tests.{eq-eqb, ne-eqb}
 use Rattle.laws.specs.Ring.{+ℤ-cancel-right}
 use Rattle.laws.specs.Solve.{solve, v, con, _⊕_}
+use Rattle.laws.specs.Table.{getD-same}
 use Rattle.laws.specs.Test.{by-eqb}
 use Rattle.penalty.specs.declared.Penalty.{Penalty}
 use Rattle.penalty.specs.Rows.{Slot, Place, singles, twos, rowOf}
@@ -29,7 +30,7 @@ mark b = cond b 2 1
 
 -- ---- what fixing leaves as it was
 
--- adding to a linear entry leaves the pairs, and the values that are fixed
+-- adding to a linear entry leaves the pairs
 pub addLinear-pairs : (q : ℕ) (c : ℤ) (m : Model) → addLinear q c m .pairs ≡ m .pairs
 unfolding addLinear
 addLinear-pairs q c m = go (isZero c)
@@ -38,6 +39,7 @@ addLinear-pairs q c m = go (isZero c)
     go true = refl
     go false = refl
 
+-- and the table of fixed values
 pub addLinear-fixed : (q : ℕ) (c : ℤ) (m : Model) → addLinear q c m .fixed ≡ m .fixed
 unfolding addLinear
 addLinear-fixed q c m = go (isZero c)
@@ -47,7 +49,7 @@ addLinear-fixed q c m = go (isZero c)
     go false = refl
 
 module _ (q : ℕ) (b : Bool) where
-  -- and so does what the neighbours gain
+  -- what the neighbours gain leaves the pairs
   pub give-pairs : (s : List Entry) (m : Model) → give q b s m .pairs ≡ m .pairs
   unfolding give
   give-pairs [] m = refl
@@ -57,6 +59,7 @@ module _ (q : ℕ) (b : Bool) where
       go true = addLinear-pairs (neighbour q (e .0)) (gated b (e .1)) m
       go false = refl
 
+  -- and the table of fixed values
   pub give-fixed : (s : List Entry) (m : Model) → give q b s m .fixed ≡ m .fixed
   unfolding give
   give-fixed [] m = refl
@@ -66,11 +69,12 @@ module _ (q : ℕ) (b : Bool) where
       go true = addLinear-fixed (neighbour q (e .0)) (gated b (e .1)) m
       go false = refl
 
-  -- fixing takes out the pairs of q, and keeps the value
+  -- fixing takes out the pairs of q
   pub fix-pairs : (m : Model) → fix q b m .pairs ≡ without q (m .pairs)
   unfolding fix
   fix-pairs m = ap (without q) (give-pairs (m .pairs) m)
 
+  -- and keeps the value
   pub fix-fixed : (m : Model) → fix q b m .fixed ≡ set (m .fixed) q (mark b)
   unfolding fix
   fix-fixed m = ap (λ (l : List ℕ). set l q (mark b)) (give-fixed (m .pairs) m)
@@ -197,9 +201,11 @@ module _ (σ : Setting) (q : ℕ) (b : Bool) where
 
 -- ---- fixing in turn
 
+-- qubits, each with its value, in fixing order
 abbrev pub Fixes : Type 0
 Fixes = List (ℕ × Bool)
 
+-- each fix on what the one before it left
 unfoldable pub fixAll : Fixes → Model → Model
 fixAll [] m = m
 fixAll (f ∷ fs) m = fixAll fs (fix (f .0) (f .1) m)
@@ -233,11 +239,12 @@ abbrev pub Meets : Setting → Fixes → Type 0
 Meets σ [] = Unit {0}
 Meets σ (f ∷ fs) = (σ (f .0) ≡ f .1) × Meets σ fs
 
--- no qubit is fixed to two values: refusal 9 does not come
+-- what these fixes say of q is b
 abbrev pub SameAt : ℕ → Bool → Fixes → Type 0
 SameAt q b [] = Unit {0}
 SameAt q b (f ∷ fs) = (f .0 ≡ q → f .1 ≡ b) × SameAt q b fs
 
+-- no qubit is fixed to two values: refusal 9 does not come
 abbrev pub OneValue : Fixes → Type 0
 OneValue [] = Unit {0}
 OneValue (f ∷ fs) = SameAt (f .0) (f .1) fs × OneValue fs
@@ -394,11 +401,12 @@ addPairs-fixed at [] cs m = refl
 addPairs-fixed at (p ∷ ps) [] m = refl
 addPairs-fixed at (p ∷ ps) (c ∷ cs) m = addPairs-fixed at ps cs _ ∙ addPair-fixed (at (p .fst)) (at (p .snd)) (halves c) m
 
--- a penalty, and rows in turn, leave the table of fixed values
+-- a penalty leaves the table of fixed values
 pub place-fixed : (at : Slot → ℕ) (p : Penalty) (m : Model) → place at p m .fixed ≡ m .fixed
 unfolding place
 place-fixed at p m = addPairs-fixed at twos (p .pairs) _ ∙ addLinears-fixed at singles (p .linear) _
 
+-- and so do rows in turn
 pub placeAll-fixed : (rs : List Row) (m : Model) → placeAll rs m .fixed ≡ m .fixed
 unfolding placeAll
 placeAll-fixed [] m = refl
@@ -406,9 +414,4 @@ placeAll-fixed (r ∷ rs) m = placeAll-fixed rs _ ∙ place-fixed (wire r) (rowO
 
 -- so nothing is fixed in the model that rows build
 pub placed-fixed : (n : ℕ) (rs : List Row) (q : ℕ) → getD (placeAll rs (empty n) .fixed) q 0 ≡ 0
-placed-fixed n rs q = ap (λ (l : List ℕ). getD l q 0) (placeAll-fixed rs (empty n)) ∙ zeros n q
-  where
-    zeros : (n q : ℕ) → getD {A = ℕ} (replicate n 0) q 0 ≡ 0
-    zeros zero q = refl
-    zeros (suc n) zero = refl
-    zeros (suc n) (suc q) = zeros n q
+placed-fixed n rs q = ap (λ (l : List ℕ). getD l q 0) (placeAll-fixed rs (empty n)) ∙ getD-same n q 0

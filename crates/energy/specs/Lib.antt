@@ -7,9 +7,13 @@ pub mod Stored
 pub mod Mass
 pub mod Before
 pub mod Fixing
+pub mod Fours
 pub mod Ising
 pub mod Finished
 pub mod Lists
 pub mod Clash
 pub mod Samples
+pub mod Marks
+pub mod Rising
+pub mod Gone
 pub mod Count

@@ -36,7 +36,7 @@ getD-tabulate zero σ q h = absurd (omega arith)
 getD-tabulate (suc n) σ zero h = refl
 getD-tabulate (suc n) σ (suc q) h = getD-tabulate n (λ q. σ (suc q)) q (omega arith)
 
--- Theorem: of the lists of the model's length that make the choice, exactly one has energy 0.
+-- of the lists of the model's length that make the choice, exactly one has energy 0
 pub record ExactlyOneList (n : ℕ) (d : Named) (e : Choice) : Type 0 where
   pub the : List Bool
   pub fits : length the ≡ d .count
@@ -44,6 +44,7 @@ pub record ExactlyOneList (n : ℕ) (d : Named) (e : Choice) : Type 0 where
   pub is-zero : binaryEnergy (asSetting the) (model n d) ≡ pos 0
   pub only : (l : List Bool) → length l ≡ d .count → Chosen d e (asSetting l) → binaryEnergy (asSetting l) (model n d) ≡ pos 0 → l ≡ the
 
+-- Theorem: that holds of each choice.
 pub exactly-one-list : (n : ℕ) (d : Named) → Numbering d → Room n d → (e : Choice) → ExactlyOneList n d e
 exactly-one-list n d m room e =
     record {

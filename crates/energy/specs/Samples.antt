@@ -62,6 +62,7 @@ P = numbered (InputBit ∷ InputBit ∷ And 0 1 ∷ []) 2 (0 ∷ 1 ∷ 2 ∷ [])
 abbrev z : ℤ
 z = pos 0
 
+-- the starred lines of 01 that speak of a model
 pub samples : List Sample
 samples =
     -- "finished: 2 and 3 have -4, pair 2 3 has 2, offset 6." "P in Ising form: -1.5, -1.5, pair 0.5, offset 2.5."
@@ -199,12 +200,14 @@ made s =
       energies = map (both m) (s .energies);
     }
 
+-- Theorem: the definitions make what 01 says.
 pub samples-hold : map made samples ≡ samples
 unfolding samples rows rowOf wire name add addLinear addPair place placeAll give without fix fixAll ising ends counted linearBy pairsBy energyBy clashAfter
 samples-hold = refl
 
--- ---- what a numbering has to prove can be proved: of P by hand
+-- ---- demand 3 of one circuit, with what its numbering has to prove by hand
 
+-- the laws of a numbering hold of P
 pub P-numbering : Numbering P
 unfolding name
 P-numbering =

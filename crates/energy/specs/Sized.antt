@@ -99,6 +99,7 @@ inside-quarters n (e ∷ s) i = (i .0, i .1, inside-quarters n s (i .2))
 
 -- ---- the Ising form in two steps: each number turned, then the pairs' ends
 
+-- the number of each entry turned, and no end yet
 abbrev pub turned : Model → Model
 turned m =
     record {
@@ -110,6 +111,7 @@ turned m =
       pairs = quarters (m .pairs);
     }
 
+-- then each pair's number joins both ends
 pub ising-turned : (m : Model) → ising m ≡ ends (quarters (m .pairs)) (turned m)
 unfolding ising
 ising-turned m = refl
@@ -180,7 +182,7 @@ module _ (n : ℕ) where
           (λ e. sized-joinLinear p c m s)
           (λ ne. sized-joinPair p q c m ne hp hq s)
 
-  -- placing: the linear coefficients, the pairs, the penalty, all rows
+  -- so do a penalty's linear coefficients, and its pairs
   pub sized-addLinears : (at : Slot → ℕ) (ps : List Place) (cs : List ℤ) (m : Model) → Sized n m → Sized n (addLinears at ps cs m)
   sized-addLinears at [] cs m s = s
   sized-addLinears at (p ∷ ps) [] m s = s

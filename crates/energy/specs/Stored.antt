@@ -23,6 +23,7 @@ use Rattle.energy.specs.Sized.{Ends, keyOf-ends, Wired, sized-empty, siz
 
 -- ---- the two weights
 
+-- a weight that takes sums to sums
 abbrev pub Additive : (Bool → ℤ → ℤ) → Type 0
 Additive f = (b : Bool) (x y : ℤ) → f b (x +ℤ y) ≡ f b x +ℤ f b y
 
@@ -41,6 +42,7 @@ pub additive-zero : (f : Bool → ℤ → ℤ) → Additive f → (b : Bool) →
 additive-zero f fa b =
     +ℤ-cancel-right (f b (pos 0)) (pos 0) (f b (pos 0)) (sym (fa b (pos 0) (pos 0)) ∙ sym (+ℤ-idl (f b (pos 0))))
 
+-- 0 times a value
 pub gated-zero : (b : Bool) → gated b (pos 0) ≡ pos 0
 gated-zero = additive-zero gated gated-add
 
@@ -163,6 +165,7 @@ module _ (f : Bool → ℤ → ℤ) (fa : Additive f) (j : Bool → Bool → Boo
       rw (linear-gain f fa σ 0 (m .linear) q c (omega (arith, s .linear)), zero-add q)
       (in-the-middle (m .offset) (linearBy f σ 0 (m .linear)) (f (σ q) c) (pairsBy f j σ (m .pairs)))
 
+  -- adding 0, which makes no entry, adds 0
   pub addLinear-energy : (n q : ℕ) (c : ℤ) (m : Model) → Sized n m → q < n
       → energyBy f j σ (addLinear q c m) ≡ energyBy f j σ m +ℤ f (σ q) c
   unfolding addLinear
@@ -272,6 +275,7 @@ module _ (σ : Setting) (n : ℕ) where
   unfolding energyBy pairsBy
   empty-energy f fa j = rw (linear-zeros f fa σ 0 n)
 
+  -- over the model without an entry
   pub placeAll-energy : n ≤ 65536 → (rs : List Row) → Wired n rs → binaryEnergy σ (placeAll rs (empty n)) ≡ pos (plain σ rs + plain σ rs)
   placeAll-energy h rs w =
       placeAll-from rs w (empty n) (sized-empty n h)

@@ -4,6 +4,8 @@ use units::Energy;
 use units::Gate;
 use units::Qubit;
 
+pub mod rules;
+
 // Why a run is refused: 10 to 15.
 pub enum Stop {
     ShortTable,

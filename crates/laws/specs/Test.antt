@@ -2,7 +2,7 @@
 -- Assumes nothing.
 use mathlib.Core.Path.{_≡_, refl}
 use mathlib.Core.Logic.{_≢_}
-use mathlib.Core.Bool.{Bool, true, false, Bool·beq, true≢false, false≢true}
+use mathlib.Core.Bool.{Bool, true, false, not, Bool·beq, true≢false, false≢true}
 use Prim.Native.Nat.{ℕ, _≤_, _<_}
 use native.Mathlib.Decide.{ℕ-discrete}
 use lib.Dec.{eqb, ltb}
@@ -16,6 +16,7 @@ by-eqb p q P f g = go (ℕ-discrete p q)
     go (yes e) = rw (eq-eqb p q e) (f e)
     go (no n) = rw (ne-eqb p q n) (g n)
 
+-- the same of an order
 pub by-ltb : (p q : ℕ) (P : Bool → Type 0) → (p < q → P true) → (q ≤ p → P false) → P (ltb p q)
 by-ltb p q P f g = go (ltb p q) refl
   where
@@ -23,8 +24,21 @@ by-ltb p q P f g = go (ltb p q) refl
     go true e = f (ltb-true p q e)
     go false e = g (ltb-false p q e)
 
+-- and of two Booleans
 pub by-beq : (a b : Bool) (P : Bool → Type 0) → (a ≡ b → P true) → (a ≢ b → P false) → P (Bool·beq a b)
 by-beq true true P f g = f refl
 by-beq true false P f g = g true≢false
 by-beq false true P f g = g false≢true
 by-beq false false P f g = f refl
+
+-- of two Booleans that differ, each is the other's negation
+pub ne-not : (a b : Bool) → a ≢ b → a ≡ not b
+ne-not true true k = absurd (k refl)
+ne-not true false k = refl
+ne-not false true k = refl
+ne-not false false k = absurd (k refl)
+
+-- and none is its own
+pub not-self : (b : Bool) → b ≢ not b
+not-self true e = true≢false e
+not-self false e = false≢true e

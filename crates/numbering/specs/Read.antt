@@ -87,6 +87,7 @@ gatesIn b = circuitOf b .gates
 -- list number k lies from its start to the next one's
 pub record ListAt (b starts : List ℕ) (k : ℕ) : Type 0 where
   pub small : k < 64
+  pub rises : getD starts k 0 ≤ getD starts (k + 1) 0
   pub whole : 16 * getD starts (k + 1) 0 ≤ length b
   pub bits : listOf b k ≡ bitsFrom b (getD starts k 0) (getD starts (k + 1) 0 - getD starts k 0)
 

@@ -8,7 +8,7 @@ use native.Mathlib.Omega.{arith}
 use lib.IntN.{ℤ, pos, negsuc, natAbs, _+ℤ_}
 use lib.ListN.{length, set, getD, length-set}
 use borrow.Author.Tests.{eqb-true}
-use Rattle.energy.specs.Model.{Model, isZero, joinLinear, addLinear, sizes}
+use Rattle.energy.specs.Model.{Model, isZero, joinLinear, addLinear, gated, sizes}
 use Rattle.energy.specs.Mass.{sizes-gain}
 use Rattle.qubo.specs.Tables.{gained, marked, withLinear}
 
@@ -70,3 +70,14 @@ gained-sizes q c l = go (isZero c)
     go : (b : Bool) → sizes (cond b l (set l q (getD l q (pos 0) +ℤ c))) ≤ sizes l + natAbs c
     go true = omega arith
     go false = sizes-gain l q c
+
+-- ---- what is given times a value
+
+pub was-given : (on : Bool) (at : ℕ) (w w′ : ℤ) (l l′ : List ℤ) (h h′ : List ℕ) → on ≡ true → w′ ≡ w → l′ ≡ gained at w′ l → h′ ≡ marked at w′ h
+    → (l′ ≡ gained at (gated on w) l) × (h′ ≡ marked at (gated on w) h)
+was-given on at w w′ l l′ h h′ o e p r =
+    let z : w′ ≡ gated on w = e ∙ ap (λ (b : Bool). gated b w) (sym o) in
+    (p ∙ ap (λ (c : ℤ). gained at c l) z, r ∙ ap (λ (c : ℤ). marked at c h) z)
+
+pub not-given : (on : Bool) (at : ℕ) (w : ℤ) (l : List ℤ) (h : List ℕ) → on ≡ false → (l ≡ gained at (gated on w) l) × (h ≡ marked at (gated on w) h)
+not-given on at w l h o = not-gained at (gated on w) l h (ap (λ (b : Bool). gated b w) o)

@@ -1,3 +1,5 @@
 -- Lemmas that several proofs cite.
 pub mod Adding
 pub mod Placing
+pub mod Removing
+pub mod Fixed

@@ -2,3 +2,4 @@
 pub mod Tables
 pub mod Logged
 pub mod Room
+pub mod Fixing

@@ -3,6 +3,7 @@
 // of which the first `count` entries are in use. The offset and the count go by value, as `Totals`.
 use units::Qubit;
 
+pub mod fix;
 pub mod linear;
 pub mod place;
 

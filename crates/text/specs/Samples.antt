@@ -13,7 +13,7 @@ use Rattle.energy.specs.Model.{Model, empty, add, addLinear, addPair, place, pl
 use Rattle.text.specs.Bytes.{bytes}
 use Rattle.text.specs.Decimal.{decimal, digits}
 use Rattle.text.specs.Halves.{halfText, halvesText}
-use Rattle.text.specs.Text.{modelText, layout, headText, inputText, badText, linearText, pairText, entries}
+use Rattle.text.specs.Text.{modelText, layout, leadText, entryText, inputText, badText, pairText, entries}
 
 -- the last of the fixing order: "1 true, 0 false"
 constants : Model → Model
@@ -88,13 +88,13 @@ samples :
     (modelText P (3 ∷ 4 ∷ 5 ∷ []) P-model ≡ bytes "2 6\n\n20 2,3 -,-\n\n30 4 1\n\n2 -4\n3 -4\n\n2 3 2\n")
     × (modelText P (3 ∷ 4 ∷ 5 ∷ []) (ising P-model) ≡ bytes "2 2.5\n\n20 2,3 -,-\n\n30 4 1\n\n2 -1.5\n3 -1.5\n\n2 3 0.5\n")
     × (modelText half (3 ∷ 4 ∷ 7 ∷ 6 ∷ []) half-model
-      ≡ bytes "4 4\n\n20 2,3 -,-\n\n30 5 1\n\n2 -2\n3 -2\n4 8\n6 6\n\n2 4 -4\n3 4 4\n3 6 -4\n4 6 -4\n")
+    ≡ bytes "4 4\n\n20 2,3 -,-\n\n30 5 1\n\n2 -2\n3 -2\n4 8\n6 6\n\n2 4 -4\n3 4 4\n3 6 -4\n4 6 -4\n")
     × (modelText half (3 ∷ 4 ∷ 7 ∷ 6 ∷ []) (ising half-model)
-      ≡ bytes "4 7\n\n20 2,3 -,-\n\n30 5 1\n\n2 -2\n3 -1\n4 3\n6 1\n\n2 4 -1\n3 4 1\n3 6 -1\n4 6 -1\n")
+    ≡ bytes "4 7\n\n20 2,3 -,-\n\n30 5 1\n\n2 -2\n3 -1\n4 3\n6 1\n\n2 4 -1\n3 4 1\n3 6 -1\n4 6 -1\n")
     × (modelText sole (3 ∷ []) sole-model ≡ bytes "0 0\n\n20 2 1\n\n18446744073709551615 2 1\n\n\n")
     × (modelText mixed (3 ∷ 0 ∷ 4 ∷ 5 ∷ 6 ∷ []) mixed-model
-      ≡ bytes "3 4\n\n20 2,? -,0\n21 4,5 -,0\n\n30 3\n31 4\n\n2 -2\n3 -4\n4 -2\n\n2 3 4\n3 4 2\n")
+    ≡ bytes "3 4\n\n20 2,? -,0\n21 4,5 -,0\n\n30 3\n31 4\n\n2 -2\n3 -4\n4 -2\n\n2 3 4\n3 4 2\n")
     × (modelText mixed (3 ∷ 0 ∷ 4 ∷ 5 ∷ 6 ∷ []) (ising mixed-model)
-      ≡ bytes "3 1.5\n\n20 2,? -,0\n21 4,5 -,0\n\n30 3\n31 4\n\n2 0\n3 -0.5\n4 -0.5\n\n2 3 1\n3 4 0.5\n")
-unfolding P P-model half half-model sole sole-model mixed mixed-model constants rows rowOf wire place placeAll add addLinear addPair give without fix ends ising counted decimal digits halfText halvesText layout headText inputText badText linearText pairText entries
+    ≡ bytes "3 1.5\n\n20 2,? -,0\n21 4,5 -,0\n\n30 3\n31 4\n\n2 0\n3 -0.5\n4 -0.5\n\n2 3 1\n3 4 0.5\n")
+unfolding P P-model half half-model sole sole-model mixed mixed-model constants rows rowOf wire place placeAll add addLinear addPair give without fix ends ising counted decimal digits halfText halvesText layout leadText entryText inputText badText pairText entries
 samples = (refl, refl, refl, refl, refl, refl, refl)

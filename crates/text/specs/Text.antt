@@ -3,8 +3,9 @@
 -- What the text says is a sheet; `layout` spells it, and `sheetOf` finds it in the finished model.
 -- Assumes nothing: these are definitions.
 use mathlib.Core.Bool.{Bool, true, false, cond}
+use mathlib.Core.Option.{Option, none, some}
 use mathlib.Core.List.{List, [], _∷_, _++_, map}
-use Prim.Native.Nat.{ℕ, zero, suc, _+_}
+use Prim.Native.Nat.{ℕ, zero, suc, _-_}
 use lib.Dec.{eqb}
 use lib.IntN.{ℤ}
 use lib.ListN.{getD}
@@ -15,11 +16,10 @@ use Rattle.text.specs.Halves.{halvesText}
 
 -- ---- what the text says
 
--- What is said of a gate: it has no qubit; or its qubit's name, which is free; or its qubit's name and the value that it is fixed to.
+-- What is said of an input bit: its gate has no qubit; or the qubit's name, and the value that it is fixed to, if any.
 pub data Shown : Type 0 where
-  none : Shown
-  free : ℕ → Shown
-  fixed : ℕ → Bool → Shown
+  absent : Shown
+  qubit : ℕ → Option Bool → Shown
 
 pub record InputLine : Type 0 where
   pub nid : ℕ
@@ -27,7 +27,9 @@ pub record InputLine : Type 0 where
 
 pub record BadLine : Type 0 where
   pub nid : ℕ
-  pub bit : Shown
+  -- the qubit's name, and the value that it is fixed to, if any
+  pub name : ℕ
+  pub value : Option Bool
 
 pub record Sheet : Type 0 where
   pub count : ℕ
@@ -61,73 +63,77 @@ commas f [] = []
 commas f (x ∷ []) = f x
 commas f (x ∷ y ∷ ys) = f x ++ (comma ∷ commas f (y ∷ ys))
 
--- `?` if none
+-- "qubits (`?` if none)"
 abbrev pub qubitText : Shown → List ℕ
-qubitText none = 63 ∷ []
-qubitText (free q) = decimal q
-qubitText (fixed q b) = decimal q
+qubitText absent = 63 ∷ []
+qubitText (qubit q v) = decimal q
 
--- a value, 0 or 1
+-- a value: 0 or 1
 abbrev pub bitByte : Bool → ℕ
 bitByte false = 48
 bitByte true = 49
 
--- `-` if none, `0` for `?`
+-- `-` if none
+abbrev pub fixedByte : Option Bool → ℕ
+fixedByte none = 45
+fixedByte (some b) = bitByte b
+
+-- "fixed values (`-` if none, `0` for `?`)"
 abbrev pub valueByte : Shown → ℕ
-valueByte none = 48
-valueByte (free q) = 45
-valueByte (fixed q b) = bitByte b
+valueByte absent = 48
+valueByte (qubit q v) = fixedByte v
 
 abbrev pub valueText : Shown → List ℕ
 valueText s = valueByte s ∷ []
 
--- "fixed value if any"
-abbrev pub valueEnd : Shown → List ℕ
-valueEnd none = newline ∷ []
-valueEnd (free q) = newline ∷ []
-valueEnd (fixed q b) = space ∷ bitByte b ∷ newline ∷ []
+-- "fixed value if any", to the line's end
+abbrev pub endText : Option Bool → List ℕ
+endText none = newline ∷ []
+endText (some b) = space ∷ bitByte b ∷ newline ∷ []
 
-unfoldable pub headText : ℕ → ℤ → List ℕ
-headText n o = decimal n ++ (space ∷ (halvesText o ++ (newline ∷ [])))
+-- a number that leads a line, and a space
+unfoldable pub leadText : ℕ → List ℕ
+leadText n = decimal n ++ (space ∷ [])
+
+-- a number and a count of halves: "count and offset", and a linear entry
+unfoldable pub entryText : ℕ → ℤ → List ℕ
+entryText n h = leadText n ++ (halvesText h ++ (newline ∷ []))
 
 unfoldable pub inputText : InputLine → List ℕ
-inputText l = decimal (l .nid) ++ (space ∷ (commas qubitText (l .bits) ++ (space ∷ (commas valueText (l .bits) ++ (newline ∷ [])))))
+inputText l = leadText (l .nid) ++ (commas qubitText (l .bits) ++ (space ∷ (commas valueText (l .bits) ++ (newline ∷ []))))
 
 unfoldable pub badText : BadLine → List ℕ
-badText l = decimal (l .nid) ++ (space ∷ (qubitText (l .bit) ++ valueEnd (l .bit)))
+badText l = leadText (l .nid) ++ (decimal (l .name) ++ endText (l .value))
 
-unfoldable pub linearText : ℕ × ℤ → List ℕ
-linearText e = decimal (e .0) ++ (space ∷ (halvesText (e .1) ++ (newline ∷ [])))
+abbrev pub linearText : ℕ × ℤ → List ℕ
+linearText e = entryText (e .0) (e .1)
 
 -- "pairs, lower first"
 unfoldable pub pairText : Entry → List ℕ
-pairText e = decimal (low (e .0)) ++ (space ∷ (decimal (high (e .0)) ++ (space ∷ (halvesText (e .1) ++ (newline ∷ [])))))
+pairText e = leadText (low (e .0)) ++ entryText (high (e .0)) (e .1)
 
 unfoldable pub layout : Sheet → List ℕ
 layout s =
-    headText (s .count) (s .offset)
+    entryText (s .count) (s .offset)
     ++ (newline ∷ (lines inputText (s .inputs) ++ (newline ∷ (lines badText (s .bads) ++ (newline ∷ (lines linearText (s .linear) ++ (newline ∷ lines pairText (s .pairs))))))))
 
 -- ---- what it says of a finished model
 
--- by the qubit's entry in the table of fixed values: 0 not fixed, 1 fixed false, 2 fixed true
-abbrev pub shownAs : ℕ → ℕ → Shown
-shownAs q f = cond (eqb f 1) (fixed q false) (cond (eqb f 2) (fixed q true) (free q))
+-- by an entry of the table of fixed values: 0 not fixed, 1 fixed false, 2 fixed true
+abbrev pub fixedBy : ℕ → Option Bool
+fixedBy f = cond (eqb f 1) (some false) (cond (eqb f 2) (some true) none)
 
--- by the gate's entry in the table of qubits: 0 no qubit, else the name + 1
+-- by an entry of the table of qubits: 0 no qubit, else the name + 1
 abbrev pub shown : List ℕ → ℕ → Shown
-shown fs zero = none
-shown fs (suc q) = shownAs q (getD fs q 0)
-
--- by the gate
-abbrev pub shownAt : List ℕ → List ℕ → ℕ → Shown
-shownAt qubits fs g = shown fs (getD qubits g 0)
+shown fs zero = absent
+shown fs (suc q) = qubit q (fixedBy (getD fs q 0))
 
 abbrev pub inputLine : List ℕ → List ℕ → Input → InputLine
-inputLine qubits fs i = record { nid = i .nid; bits = map (shownAt qubits fs) (i .bits) }
+inputLine qubits fs i = record { nid = i .nid; bits = map (λ (g : ℕ). shown fs (getD qubits g 0)) (i .bits) }
 
+-- a bad state has a qubit
 abbrev pub badLine : List ℕ → List ℕ → Bad → BadLine
-badLine qubits fs b = record { nid = b .nid; bit = shownAt qubits fs (b .gate) }
+badLine qubits fs b = record { nid = b .nid; name = getD qubits (b .gate) 0 - 1; value = fixedBy (getD fs (getD qubits (b .gate) 0 - 1) 0) }
 
 -- the linear entries of the qubits q, q + 1, ..: of those that have one
 unfoldable pub entries : ℕ → List ℕ → List ℤ → List (ℕ × ℤ)
@@ -135,16 +141,20 @@ entries q [] cs = []
 entries q (h ∷ hs) [] = []
 entries q (h ∷ hs) (c ∷ cs) = cond (eqb h 1) ((q, c) ∷ entries (suc q) hs cs) (entries (suc q) hs cs)
 
-abbrev pub sheetOf : Circuit → List ℕ → Model → Sheet
-sheetOf c qubits m =
+-- the sheet, by the model's numbers
+abbrev pub sheetBy : Circuit → List ℕ → ℕ → ℤ → List ℕ → List ℕ → List ℤ → List Entry → Sheet
+sheetBy c qubits n o fs hs cs ps =
     record {
-      count = variables m;
-      offset = m .offset;
-      inputs = map (inputLine qubits (m .fixed)) (c .inputs);
-      bads = map (badLine qubits (m .fixed)) (c .bads);
-      linear = entries 0 (m .hasLinear) (m .linear);
-      pairs = m .pairs;
+      count = n;
+      offset = o;
+      inputs = map (inputLine qubits fs) (c .inputs);
+      bads = map (badLine qubits fs) (c .bads);
+      linear = entries 0 hs cs;
+      pairs = ps;
     }
+
+abbrev pub sheetOf : Circuit → List ℕ → Model → Sheet
+sheetOf c qubits m = sheetBy c qubits (variables m) (m .offset) (m .fixed) (m .hasLinear) (m .linear) (m .pairs)
 
 -- The text of a finished model, by its circuit and the qubits that its gates have.
 abbrev pub modelText : Circuit → List ℕ → Model → List ℕ

@@ -45,17 +45,21 @@ fn put_half(buf: &mut [u8], at: usize, n: u64) -> usize
     }
 }
 
-// The size of a count.
+// The size of a count; of the lowest one also, whose negation is no i64.
 fn size_of(h: i64) -> u64
-    requires { ⌜ natAbs h < 2 ^ 63 ⌝ }
     ensures { λ r. ⌜ r ≡ natAbs h ⌝ }
 {
-    if h < 0 { (0 - h) as u64 } else { h as u64 }
+    if h < 0 {
+        let less = 0 - (h + 1);
+        less as u64 + 1
+    } else {
+        h as u64
+    }
 }
 
 // A signed count of halves.
 pub fn put_halves(buf: &mut [u8], at: usize, h: i64) -> usize
-    requires { ⌜ (natAbs h < 2 ^ 63) × Room at (halvesText h) ⌝ }
+    requires { ⌜ Room at (halvesText h) ⌝ }
     ensures { λ r. ⌜ Printed (halvesText h) (now (buf .entry)) at (now (buf .exit)) r ⌝ }
 {
     let size = size_of(h);

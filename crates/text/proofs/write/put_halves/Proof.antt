@@ -36,13 +36,13 @@ size-of-requires : tie.Need-size-of-requires
 size-of-requires c κs = search needs
 
 put-requires : tie.Need-put-requires
-put-requires c κs = room-first _ (room-as (text-below (c .before)) (c .before .before .before .before .pre .1))
+put-requires c κs = room-first _ (room-as (text-below (c .before)) (c .before .before .before .before .pre))
 
 put-half-requires : tie.Need-put-half-requires
-put-half-requires c κs = room-second (c .before .before .before .put .ensures) (room-as (text-below (c .before .before .before .before .before)) (c .before .before .before .before .before .before .before .before .pre .1))
+put-half-requires c κs = room-second (c .before .before .before .put .ensures) (room-as (text-below (c .before .before .before .before .before)) (c .before .before .before .before .before .before .before .before .pre))
 
 put-half-requires-2 : tie.Need-put-half-requires-2
-put-half-requires-2 c κs = room-as (text-above (c .before)) (c .before .before .before .before .pre .1)
+put-half-requires-2 c κs = room-as (text-above (c .before)) (c .before .before .before .before .pre)
 
 same-length : tie.Need-same-length
 same-length c = search needs

@@ -1,0 +1,3 @@
+mod Starting
+mod Limits
+mod Topping
