@@ -1,3 +1,6 @@
 mod Starting
-mod Limits
 mod Topping
+mod Late
+mod Wrong
+mod Checks
+mod Reading

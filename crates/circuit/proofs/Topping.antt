@@ -1,22 +1,21 @@
 -- The loop that finds the largest gate of each list: what holds of its table before record n. Assumes nothing.
-use Prim.Native.Nat.{ℕ, zero, suc, _+_, _-_, _≤_, _<_, max}
+use Prim.Native.Nat.{ℕ, suc, _+_, _-_, _≤_, _<_, max}
 use mathlib.Core.Path.{_≡_, refl, sym, ap, _∙_}
-use mathlib.Core.Bool.{Bool, true, false, _&&_}
-use mathlib.Core.List.{List, [], _∷_, map}
+use mathlib.Core.Bool.{true, false}
+use mathlib.Core.List.{List, _∷_, map}
 use native.Mathlib.Omega.{arith}
 use native.Mathlib.Nat.{zero-add}
 use native.Mathlib.Decide.{ℕ-discrete}
 use borrow.Author.Tests.{eq-eqb, ne-eqb}
-use lib.Dec.{eqb}
 use lib.ListN.{length, getD, set, replicate, length-set, length-replicate, getD-replicate, length-map}
 use lib.Seq.{getD-set-same, getD-set-other, ext-getD}
 use Rattle.circuit.specs.declared.Found.the-variants.{Nowhere}
-use Rattle.circuit.specs.File.{records, kindByte, field, those, isBitOf, bitsOf}
+use Rattle.circuit.specs.File.{records, kindByte, field, those, isBitOf}
 use Rattle.circuit.specs.Search.{those-step, those-end}
 use Rattle.circuit.specs.Count.{range, length-range, getD-range, getD-of}
 use Rattle.circuit.specs.Meaning.{listOf}
 use Rattle.circuit.specs.Form.{firstBroken}
-use Rattle.circuit.specs.Starts.{lists-numbered}
+use Rattle.circuit.specs.Numbers.{lists-numbered}
 use Rattle.circuit.specs.Tops.{topOf, topsOf}
 
 -- the gates of list k from record n on

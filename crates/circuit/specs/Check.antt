@@ -53,12 +53,19 @@ abbrev pub refuseAt : Found → (Record → Refusal) → Checked → Checked
 refuseAt (At n) r next = Refused (r (place n))
 refuseAt Nowhere r next = next
 
--- checks 6 and 7
-unfoldable pub roomed : List ℕ → ℕ → ℕ → ℕ → Checked
-roomed c gates qubits pairs =
-    refuse (eqb (countsOf c .«bad_states») 0) NoBadState
-    (refuse (noRoom (countsOf c) gates qubits pairs) Room
-    (Accepted (countsOf c)))
+-- 6 and 7: "there is no bad state", and no room
+unfoldable pub roomed : Counts → ℕ → ℕ → ℕ → Checked
+roomed k gates qubits pairs =
+    refuse (eqb (k .«bad_states») 0) NoBadState
+    (refuse (noRoom k gates qubits pairs) Room
+    (Accepted k))
+
+-- 4 to 7
+unfoldable pub named : List ℕ → ℕ → ℕ → ℕ → Checked
+named c gates qubits pairs =
+    refuseAt (firstLate c) NotEarlier
+    (refuseAt (firstWrong c) Partner
+    (roomed (countsOf c) gates qubits pairs))
 
 -- All seven, of any bytes and any lengths of the tables.
 unfoldable pub checked : List ℕ → ℕ → ℕ → ℕ → Checked
@@ -66,6 +73,4 @@ checked c gates qubits pairs =
     refuse (not (eqb (length c % 16) 0)) Length
     (refuse (tooMany (countsOf c)) TooMany
     (refuseAt (firstBroken c) Form
-    (refuseAt (firstLate c) NotEarlier
-    (refuseAt (firstWrong c) Partner
-    (roomed c gates qubits pairs)))))
+    (named c gates qubits pairs)))

@@ -1,10 +1,10 @@
 -- "4: a gate names an operand or adder not earlier than itself, or a division's list holds such a gate (place: the division); or kinds 20 to 23 name no gate."
 -- Gates come first (check 3), so record n is gate n.
 -- Assumes nothing.
-use Prim.Native.Nat.{ℕ, zero, suc, max}
-use mathlib.Core.Bool.{Bool, true, false, not, _&&_, _||_}
+use Prim.Native.Nat.{ℕ}
+use mathlib.Core.Bool.{Bool, false, _&&_, _||_}
 use mathlib.Core.List.{List, [], _∷_, _++_}
-use lib.Dec.{leb, ltb, eqb}
+use lib.Dec.{leb, eqb}
 use lib.ListN.{take}
 use Rattle.circuit.specs.declared.Found.{Found}
 use Rattle.circuit.specs.File.{records, kindByte, field, either, countOf}

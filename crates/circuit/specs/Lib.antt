@@ -5,10 +5,15 @@ pub mod Meaning
 pub mod Form
 pub mod Passing
 pub mod Ordered
+pub mod Numbers
 pub mod Starts
 pub mod Refusals
 pub mod Earlier
 pub mod Partner
 pub mod Tops
+pub mod Marks
 pub mod Check
+pub mod Limits
+pub mod Accepted
+pub mod Parts
 pub mod Samples

@@ -1,26 +1,23 @@
 -- What check 3 gives of a file whose form is right: each section stands in one stretch, after the sections before it, and so does each list.
 -- Assumes nothing.
 use Prim.Native.Nat.{ℕ, zero, suc, _+_, _-_, _≤_, _<_}
-use mathlib.Core.Path.{_≡_, refl, sym, ap, _∙_, subst}
-use mathlib.Core.Bool.{Bool, true, false, not, _&&_, _||_}
-use mathlib.Core.List.{List, [], _∷_, _++_, map}
+use mathlib.Core.Path.{_≡_, sym, ap, _∙_}
+use mathlib.Core.Bool.{Bool, false, _&&_}
+use mathlib.Core.List.{List}
 use native.Mathlib.Omega.{arith}
 use native.Mathlib.Numerals.{add-one}
 use borrow.Author.Tests.{ltb-true, ltb-false, leb-true, leb-false, eqb-true, eqb-false, lt-ltb, le-ltb, le-leb, lt-leb, eq-eqb, ne-eqb}
 use lib.Dec.{leb, ltb, eqb}
-use lib.ListN.{length, getD}
+use lib.ListN.{length}
 use Rattle.circuit.specs.declared.Section.{Section}
 use Rattle.circuit.specs.declared.Section.the-variants.{Gates, ListBits, BadStates, Constraints, InputBits, Unknown}
-use Rattle.circuit.specs.declared.Found.{Found}
-use Rattle.circuit.specs.declared.Found.the-variants.{At, Nowhere}
-use Rattle.circuit.specs.declared.Run.{Run}
+use Rattle.circuit.specs.declared.Found.the-variants.{Nowhere}
 use Rattle.circuit.specs.declared.Passed.{Passed}
-use Rattle.circuit.specs.File.{records, kindByte, field, sectionOf, sectionAt, either, consIf, those, isKind, placesOf, countOf, isBitOf, bitsOf}
-use Rattle.circuit.specs.Search.{firstOf, anyBefore, found-nowhere}
-use Rattle.circuit.specs.Count.{by-test, countBefore, range, length-those, count-le, count-all, count-none, count-same, Rising, rising-le, under, under-mono, boundary, together, length-range, those-same, those-agree}
-use Rattle.circuit.specs.Meaning.{listOf, numbersTo, howMany}
-use Rattle.circuit.specs.Form.{orderOf, orderAt, misplaced, unusedSet, times, badNumber, badValue, misnumberedAs, otherNid, breaks, firstBroken}
-use Rattle.circuit.specs.Passing.{neither, badIn, runAfter, breaksBy, after, start, Runs, Holds, holds-start, holds-after, breaks-by, Fits, parts, next-or-last, small-number}
+use Rattle.circuit.specs.File.{records, kindByte, sectionOf, sectionAt, those, placesOf, countOf}
+use Rattle.circuit.specs.Search.{anyBefore, found-nowhere}
+use Rattle.circuit.specs.Count.{by-test, range, count-all, count-none, Rising, under, under-mono, boundary, together, length-range, those-same}
+use Rattle.circuit.specs.Form.{orderOf, orderAt, misplaced, unusedSet, badValue, misnumberedAs, otherNid, breaks, firstBroken}
+use Rattle.circuit.specs.Passing.{neither, after, start, Holds, holds-start, holds-after, breaks-by}
 
 -- ---- kinds and the order of sections
 
@@ -173,17 +170,20 @@ module _ (c : List ℕ) (form : firstBroken c ≡ Nowhere) where
   first-at : sec c 0 ≡ 0
   first-at = count-none (λ (n : ℕ). ltb (orderAt c n) 0) (records c) (λ m l. le-ltb (orderAt c m) 0 (omega arith))
 
-  lists-at : sec c 1 ≡ countOf c 0 13
+  -- where the gates end
+  pub lists-at : under (orderAt c) (records c) 1 ≡ countOf c 0 13
   lists-at = stretch 0 (placesOf c 0 13) (gates-by c) .1 ∙ ap (λ (x : ℕ). x + countOf c 0 13) first-at ∙ omega arith
 
   -- where the bad states start
   pub bads-at : under (orderAt c) (records c) 2 ≡ countOf c 0 13 + countOf c 20 20
   bads-at = stretch 1 (placesOf c 20 20) (kind-by c 20 1 list-kind) .1 ∙ ap (λ (x : ℕ). x + countOf c 20 20) lists-at
 
-  constraints-at : sec c 3 ≡ countOf c 0 13 + countOf c 20 20 + countOf c 21 21
+  -- where the constraints start
+  pub constraints-at : under (orderAt c) (records c) 3 ≡ countOf c 0 13 + countOf c 20 20 + countOf c 21 21
   constraints-at = stretch 2 (placesOf c 21 21) (kind-by c 21 2 bad-kind) .1 ∙ ap (λ (x : ℕ). x + countOf c 21 21) bads-at
 
-  inputs-at : sec c 4 ≡ countOf c 0 13 + countOf c 20 20 + countOf c 21 21 + countOf c 22 22
+  -- where the input bits start
+  pub inputs-at : under (orderAt c) (records c) 4 ≡ countOf c 0 13 + countOf c 20 20 + countOf c 21 21 + countOf c 22 22
   inputs-at = stretch 3 (placesOf c 22 22) (kind-by c 22 3 constraint-kind) .1 ∙ ap (λ (x : ℕ). x + countOf c 22 22) constraints-at
 
   end-at : sec c 5 ≡ countOf c 0 13 + countOf c 20 20 + countOf c 21 21 + countOf c 22 22 + countOf c 23 23
@@ -212,3 +212,11 @@ module _ (c : List ℕ) (form : firstBroken c ≡ Nowhere) where
   -- and there are no other records
   pub all-stand : records c ≡ countOf c 0 13 + countOf c 20 20 + countOf c 21 21 + countOf c 22 22 + countOf c 23 23
   all-stand = sym (count-all (λ (n : ℕ). ltb (orderAt c n) 5) (records c) (λ m l. lt-ltb (orderAt c m) 5 (known-order c form m l))) ∙ end-at
+
+  -- a record is a gate exactly when its number is below the number of gates
+  pub gate-kinds : (n : ℕ) → n < countOf c 0 13 → kindByte c n ≤ 13
+  unfolding orderAt sectionAt
+  gate-kinds n l =
+      let u : n < records c = omega (arith, all-stand) in
+      let low : orderOf (sectionOf (kindByte c n)) < 1 = ltb-true (orderAt c n) 1 (boundary (orderAt c) 1 (records c) (order-rising c form) n u ∙ lt-ltb n (sec c 1) (omega (arith, lists-at))) in
+      kind-cases (kindByte c n) (λ i e. i) (λ i e. absurd (omega arith)) (λ i e. absurd (omega arith)) (λ i e. absurd (omega arith)) (λ i e. absurd (omega arith)) (λ i f1 f2 f3 f4 e. absurd (omega arith))

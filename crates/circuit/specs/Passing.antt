@@ -1,6 +1,6 @@
 -- One pass over the records is enough to see the form: what has to be kept of the records passed, and that it says what Form.antt asks of all of them.
 -- Assumes nothing.
-use Prim.Native.Nat.{ℕ, zero, suc, _+_, _-_, _≤_, _<_, max}
+use Prim.Native.Nat.{ℕ, zero, suc, _+_, _≤_, _<_, max}
 use mathlib.Core.Path.{_≡_, refl, sym, ap, _∙_}
 use mathlib.Core.Bool.{Bool, true, false, not, _&&_, _||_, or-false, or-comm, or-self}
 use mathlib.Core.List.{List, [], _∷_}
@@ -10,7 +10,8 @@ use borrow.Author.Tests.{ltb-true, ltb-false, eqb-true, eqb-false, lt-ltb, le-lt
 use lib.Dec.{leb, ltb, eqb, eqb·suc-suc}
 use Rattle.circuit.specs.declared.Run.{Run}
 use Rattle.circuit.specs.declared.Passed.{Passed}
-use Rattle.circuit.specs.File.{kindByte, byte1, field, nidAt, either, consIf, isBitOf}
+use Rattle.circuit.specs.File.{kindByte, field, nidAt, either, consIf, isBitOf}
+use Rattle.circuit.specs.Count.{by-test}
 use Rattle.circuit.specs.Search.{anyBefore}
 use Rattle.circuit.specs.Meaning.{numbersTo, howMany}
 use Rattle.circuit.specs.Form.{orderAt, misplaced, unusedSet, follows, times, badNumber, badValue, nidBefore, breaks}
@@ -43,10 +44,6 @@ abbrev pub start : Passed
 start = record { order = 0; lists = record { begun = 0; bits = 0 }; inputs = record { begun = 0; bits = 0 }; nid = 0 }
 
 -- ---- laws of tests
-
-by-test {ℓ} : {A : Type ℓ} (t : Bool) → (t ≡ true → A) → (t ≡ false → A) → A
-by-test true f g = f refl
-by-test false f g = g refl
 
 -- neither part of a false `or` is true
 pub neither : (a b : Bool) → (a || b) ≡ false → (a ≡ false) × (b ≡ false)

@@ -1,12 +1,10 @@
 -- The first of some numbers that passes a test, and whether an earlier one passes it.
 -- Assumes nothing.
-use Prim.Native.Nat.{ℕ, zero, suc, _+_, _-_, _≤_, _<_, max}
+use Prim.Native.Nat.{ℕ, zero, suc, _+_, _-_, _≤_, _<_}
 use mathlib.Core.Path.{_≡_, refl, sym, ap, _∙_}
 use mathlib.Core.Bool.{Bool, true, false, _||_}
-use mathlib.Core.List.{List, [], _∷_, _++_, map}
+use mathlib.Core.List.{[]}
 use native.Mathlib.Omega.{arith}
-use lib.Dec.{leb, ltb, eqb}
-use lib.ListN.{length, getD}
 use Rattle.circuit.specs.declared.Found.{Found}
 use Rattle.circuit.specs.declared.Found.the-variants.{At, Nowhere}
 use Rattle.circuit.specs.File.{either, consIf, those}

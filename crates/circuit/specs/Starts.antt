@@ -1,26 +1,22 @@
 -- Where each list's bits stand, and each input's: since numbers only stay or rise, the bits of one list stand together.
 -- Assumes nothing.
-use Prim.Native.Nat.{ℕ, zero, suc, _+_, _-_, _≤_, _<_}
-use mathlib.Core.Path.{_≡_, refl, sym, ap, _∙_, subst}
+use Prim.Native.Nat.{ℕ, suc, _+_, _-_, _≤_, _<_}
+use mathlib.Core.Path.{_≡_, sym, ap, _∙_}
 use mathlib.Core.Logic.{_⊎_, inl, inr, ⊎-elim}
-use mathlib.Core.Bool.{Bool, true, false, not, _&&_, _||_}
-use mathlib.Core.List.{List, [], _∷_, _++_, map}
+use mathlib.Core.Bool.{Bool, true, _&&_, _||_}
+use mathlib.Core.List.{List, [], map}
 use native.Mathlib.Omega.{arith}
-use native.Mathlib.Numerals.{add-one}
 use native.Mathlib.Decide.{decLe}
-use borrow.Author.Tests.{ltb-true, ltb-false, leb-true, leb-false, eqb-true, eqb-false, lt-ltb, le-ltb, le-leb, lt-leb, eq-eqb, ne-eqb}
+use borrow.Author.Tests.{ltb-true, ltb-false, eqb-true, eqb-false, lt-ltb, le-ltb, le-leb, lt-leb, eq-eqb, ne-eqb}
 use lib.Dec.{leb, ltb, eqb, leb·suc-suc, eqb·suc-suc, lit<}
-use lib.ListN.{length, getD}
-use Rattle.circuit.specs.declared.Found.{Found}
-use Rattle.circuit.specs.declared.Found.the-variants.{At, Nowhere}
-use Rattle.circuit.specs.declared.Passed.{Passed}
-use Rattle.circuit.specs.declared.Run.{Run}
-use Rattle.circuit.specs.File.{records, kindByte, field, sectionOf, sectionAt, either, consIf, those, isBitOf, bitsOf, countOf}
-use Rattle.circuit.specs.Count.{by-test, countBefore, range, length-those, count-same, count-none, Rising, under, boundary, together, those-same, those-agree, none-of}
-use Rattle.circuit.specs.Meaning.{listOf, numbersTo, howMany}
-use Rattle.circuit.specs.Form.{orderOf, orderAt, times, firstBroken}
-use Rattle.circuit.specs.Passing.{badIn, Runs, Holds, breaks-by, parts, Fits, next-or-last, small-number}
-use Rattle.circuit.specs.Ordered.{kind-cases, known-order, order-rising, unbroken, passed-at, bads-at, all-stand}
+use lib.ListN.{length}
+use Rattle.circuit.specs.declared.Found.the-variants.{Nowhere}
+use Rattle.circuit.specs.File.{records, kindByte, field, sectionOf, sectionAt, either, those, isBitOf, bitsOf, countOf}
+use Rattle.circuit.specs.Count.{by-test, countBefore, range, length-those, count-same, count-all, count-le, Rising, under, boundary, together, those-same, none-of}
+use Rattle.circuit.specs.Meaning.{listOf}
+use Rattle.circuit.specs.Form.{orderOf, orderAt, firstBroken}
+use Rattle.circuit.specs.Numbers.{Numbered, lists-numbered, inputs-numbered}
+use Rattle.circuit.specs.Ordered.{kind-cases, known-order, order-rising, bads-at, all-stand}
 
 -- the records that come before list (kind 20) or input (kind 23) number k: those of earlier sections, and the bits of lower numbers
 abbrev pub comesBefore : List ℕ → ℕ → ℕ → ℕ → Bool
@@ -31,8 +27,8 @@ unfoldable pub startOf : List ℕ → ℕ → ℕ → ℕ
 startOf c kind k = length (those (comesBefore c kind k) 0 (records c))
 
 -- list k is from entry k to entry k + 1, for every number that a list can have
-unfoldable pub startsOf : List ℕ → List ℕ
-startsOf c = map (startOf c 20) (range 0 65)
+unfoldable pub startsOf : List ℕ → ℕ → List ℕ
+startsOf c kind = map (startOf c kind) (range 0 65)
 
 -- ---- a function that rises over the records: 0 before the bits, 1 + the number at a bit, 65 after them
 
@@ -74,67 +70,10 @@ kinds-rise : (j k : ℕ) → orderOf (sectionOf j) ≤ orderOf (sectionOf k) →
 kinds-rise j k h l =
     ⊎-elim (λ a. inl (a .0)) (λ a. ⊎-elim (λ b. absurd (omega arith)) (λ b. inr (omega arith)) (kind-order k l)) (kind-order j (omega arith))
 
-times-more : (k : ℕ) (b : Bool) (a : ℕ) (ks : List ℕ) → times k ks ≤ times k (consIf b a ks)
-unfolding times
-times-more k true a ks = by-test (eqb a k) (λ e. rw e (omega arith)) (λ e. rw e (omega arith))
-times-more k false a ks = omega arith
-
-times-head : (a : ℕ) (ks : List ℕ) → 0 < times a (a ∷ ks)
-unfolding times
-times-head a ks = rw (eq-eqb a a refl) (omega arith)
-
-times-some : (c : List ℕ) (kind m n : ℕ) → m < n → kindByte c m ≡ kind → 0 < times (field c m 0) (numbersTo c kind n)
-unfolding numbersTo
-times-some c kind m zero l e = absurd (omega arith)
-times-some c kind m (suc n) l e = go (decLe (suc m) n) (λ d. times-some c kind m n d e)
-  where
-    here : m ≡ n → 0 < times (field c m 0) (consIf (eqb (kindByte c n) kind) (field c n 0) (numbersTo c kind n))
-    here f = rw (f, eq-eqb (kindByte c n) kind (ap (kindByte c) (sym f) ∙ e)) (times-head (field c n 0) (numbersTo c kind n))
-
-    go : Dec (suc m ≤ n) → (m < n → 0 < times (field c m 0) (numbersTo c kind n)) → 0 < times (field c m 0) (consIf (eqb (kindByte c n) kind) (field c n 0) (numbersTo c kind n))
-    go (yes d) ih = omega (arith, ih d, times-more (field c m 0) (eqb (kindByte c n) kind) (field c n 0) (numbersTo c kind n))
-    go (no d) ih = here (omega arith)
-
--- a number that follows is no lower than any before it
-pub number-after : (ks : List ℕ) (r : Run) → Runs ks r → (a : ℕ) → badIn r a ≡ false → (b : ℕ) → 0 < times b ks → b ≤ a
-number-after ks r h a e b l =
-    let low : b < r .begun = go (decLe (r .begun) b) in
-    by-test (eqb a (r .begun)) (λ f. omega (arith, eqb-true a (r .begun) f)) (λ f. omega (arith, next-or-last r a e f .0))
-  where
-    go : Dec (r .begun ≤ b) → b < r .begun
-    go (yes d) = absurd (omega (arith, h .none b d))
-    go (no d) = omega arith
-
 module _ (c : List ℕ) (form : firstBroken c ≡ Nowhere) where
   kind-rises : (m n : ℕ) → m < n → n < records c → (kindByte c m ≤ 13) ⊎ (kindByte c m ≤ kindByte c n)
   unfolding orderAt sectionAt
   kind-rises m n l u = kinds-rise (kindByte c m) (kindByte c n) (order-rising c form m n l u) (known-order c form n u)
-
-  -- of two bits of one kind, 20 or 23, the later has no lower number; and a number is below 64
-  pub record Numbered (kind : ℕ) : Type 0 where
-    pub rise : (m n : ℕ) → m < n → n < records c → kindByte c m ≡ kind → kindByte c n ≡ kind → field c m 0 ≤ field c n 0
-    pub small : (n : ℕ) → n < records c → kindByte c n ≡ kind → field c n 0 < 64
-
-  numbered-by : (kind : ℕ) → ((n : ℕ) → n < records c → kindByte c n ≡ kind → (r : Run) × (Runs (numbersTo c kind n) r × (badIn r (field c n 0) ≡ false))) → Numbered kind
-  numbered-by kind h =
-      record {
-        rise = λ m n l u e f. number-after (numbersTo c kind n) (h n u f .0) (h n u f .1 .0) (field c n 0) (h n u f .1 .1) (field c m 0) (times-some c kind m n l e);
-        small = λ n u f. small-number (h n u f .0) (field c n 0) (h n u f .1 .1);
-      }
-
-  pub lists-numbered : Numbered 20
-  lists-numbered =
-      numbered-by 20 (λ n u f.
-      let p = passed-at c form n (omega arith) in
-      let fit = parts c n (p .0) (sym (breaks-by c n (p .0) (p .1)) ∙ unbroken c form n u) in
-      (p .0 .lists, (p .1 .lists, rw (eq-eqb (kindByte c n) 20 f) at (fit .list))))
-
-  pub inputs-numbered : Numbered 23
-  inputs-numbered =
-      numbered-by 23 (λ n u f.
-      let p = passed-at c form n (omega arith) in
-      let fit = parts c n (p .0) (sym (breaks-by c n (p .0) (p .1)) ∙ unbroken c form n u) in
-      (p .0 .inputs, (p .1 .inputs, rw (eq-eqb (kindByte c n) 23 f) at (fit .input))))
 
 -- ---- the function rises
 
@@ -157,7 +96,7 @@ module _ (c : List ℕ) (kind n : ℕ) where
       (λ e. f (ltb-true (kindByte c n) kind e))
       (λ e. by-test (eqb (kindByte c n) kind) (λ i. g (eqb-true (kindByte c n) kind i)) (λ i. h (omega (arith, ltb-false (kindByte c n) kind e, eqb-false (kindByte c n) kind i))))
 
-module _ (c : List ℕ) (form : firstBroken c ≡ Nowhere) (kind : ℕ) (past : 13 < kind) (num : Numbered c form kind) where
+module _ (c : List ℕ) (form : firstBroken c ≡ Nowhere) (kind : ℕ) (past : 13 < kind) (num : Numbered c kind) where
   key-rising : Rising (key c kind) (records c)
   key-rising m n l u =
       kind-split c kind m
@@ -252,30 +191,6 @@ module _ (c : List ℕ) (form : firstBroken c ≡ Nowhere) where
   unfolding listOf
   list-stands k l = ap (map (λ (n : ℕ). field c n 1)) (bits-stand c form 20 (lit< tt) (lists-numbered c form) k l)
 
-  -- the numbers before record n are below the next new number
-  pub number-below : (n : ℕ) → n ≤ records c → (m : ℕ) → m < n → kindByte c m ≡ 20 → field c m 0 < howMany (numbersTo c 20 n)
-  number-below n u m l e = go (decLe (howMany (numbersTo c 20 n)) (field c m 0))
-    where
-      runs : Runs (numbersTo c 20 n) (passed-at c form n u .0 .lists)
-      runs = passed-at c form n u .1 .lists
-
-      go : Dec (howMany (numbersTo c 20 n) ≤ field c m 0) → field c m 0 < howMany (numbersTo c 20 n)
-      go (yes d) = absurd (omega (arith, times-some c 20 m n l e, runs .none (field c m 0) (omega (arith, runs .begun))))
-      go (no d) = omega arith
-
-  -- a list bit's number is the next new one, or the last
-  pub new-or-last : (n : ℕ) → n < records c → kindByte c n ≡ 20 → (field c n 0 ≡ howMany (numbersTo c 20 n) → ⊥) → field c n 0 + 1 ≡ howMany (numbersTo c 20 n)
-  new-or-last n u e h = next-or-last (p .0 .lists) (field c n 0) (rw (eq-eqb (kindByte c n) 20 e) at (fit .list)) (ne-eqb (field c n 0) (p .0 .lists .begun) (λ z. h (z ∙ sym (runs .begun)))) .0 ∙ sym (runs .begun)
-    where
-      p : (q : Passed) × Holds c n q
-      p = passed-at c form n (omega arith)
-
-      fit : Fits c n (p .0)
-      fit = parts c n (p .0) (sym (breaks-by c n (p .0) (p .1)) ∙ unbroken c form n u)
-
-      runs : Runs (numbersTo c 20 n) (p .0 .lists)
-      runs = p .1 .lists
-
 -- A file that passed checks 2 and 3.
 pub record Regular (c : List ℕ) : Type 0 where
   pub form : firstBroken c ≡ Nowhere
@@ -288,3 +203,43 @@ pub record Regular (c : List ℕ) : Type 0 where
 -- a file within the limits is not long
 pub few-records : (c : List ℕ) → Regular c → records c ≤ 6416
 few-records c h = omega (arith, all-stand c (h .form), h .gates, h .listBits, h .bads, h .constraints, h .inputBits)
+
+-- where the bits of one kind, 20 or 23, end
+pub record Ends (c : List ℕ) (kind last : ℕ) : Type 0 where
+  pub regular : Regular c
+  pub past : 13 < kind
+  pub numbered : Numbered c kind
+  pub ends : last ≡ countBefore (λ (n : ℕ). leb (kindByte c n) kind) (records c)
+
+pub ends-lists : (c : List ℕ) → Regular c → {last : ℕ} → last ≡ countOf c 0 13 + countOf c 20 20 → Ends c 20 last
+ends-lists c h e =
+    record { regular = h; past = lit< tt; numbered = lists-numbered c (h .form); ends = e ∙ sym (lists-end c (h .form)) }
+
+known-kind : (k : ℕ) → orderOf (sectionOf k) < 5 → leb k 23 ≡ true
+known-kind k h =
+    kind-cases k
+    (λ l e. le-leb k 23 (omega arith))
+    (λ l e. le-leb k 23 (omega arith))
+    (λ l e. le-leb k 23 (omega arith))
+    (λ l e. le-leb k 23 (omega arith))
+    (λ l e. le-leb k 23 (omega arith))
+    (λ l f1 f2 f3 f4 e. absurd (omega arith))
+
+pub ends-inputs : (c : List ℕ) → Regular c → Ends c 23 (records c)
+unfolding orderAt sectionAt
+ends-inputs c h =
+    record {
+      regular = h;
+      past = lit< tt;
+      numbered = inputs-numbered c (h .form);
+      ends = sym (count-all (λ (n : ℕ). leb (kindByte c n) 23) (records c) (λ n l. known-kind (kindByte c n) (known-order c (h .form) n l)));
+    }
+
+pub ends-small : (c : List ℕ) (kind last : ℕ) → Ends c kind last → last ≤ 6416
+ends-small c kind last h =
+    omega (arith, h .ends, count-le (λ (n : ℕ). leb (kindByte c n) kind) (records c), few-records c (h .regular))
+
+-- nothing starts past the end
+pub starts-most : (c : List ℕ) (kind k : ℕ) → startOf c kind k ≤ records c
+unfolding startOf
+starts-most c kind k = omega (arith, length-those (comesBefore c kind k) (records c), count-le (comesBefore c kind k) (records c))

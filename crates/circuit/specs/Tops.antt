@@ -1,21 +1,21 @@
 -- One number of each list is enough for checks 4 and 5: one more than its largest gate, and 0 where it has no bits.
 -- Assumes nothing.
-use Prim.Native.Nat.{ℕ, zero, suc, _+_, _-_, _≤_, _<_, max}
+use Prim.Native.Nat.{ℕ, zero, suc, _≤_, _<_, max}
 use mathlib.Core.Path.{_≡_, refl, sym, ap, _∙_}
-use mathlib.Core.Bool.{Bool, true, false, not, _&&_, _||_, or-assoc, or-false}
+use mathlib.Core.Bool.{Bool, true, false, _&&_, _||_, or-assoc, or-false}
 use mathlib.Core.List.{List, [], _∷_, _++_, map}
 use native.Mathlib.Omega.{arith}
 use native.Mathlib.Nat.{zero-add}
-use borrow.Author.Tests.{ltb-true, ltb-false, leb-true, leb-false, eqb-true, eqb-false, lt-ltb, le-ltb, le-leb, lt-leb, eq-eqb, ne-eqb}
+use borrow.Author.Tests.{ltb-true, ltb-false, leb-true, leb-false, lt-ltb, le-ltb, ne-eqb}
 use lib.Dec.{leb, ltb, eqb, lit<}
-use lib.ListN.{length, getD, take}
-use Rattle.circuit.specs.declared.Found.{Found}
-use Rattle.circuit.specs.declared.Found.the-variants.{At, Nowhere}
-use Rattle.circuit.specs.File.{either, bitsOf, field}
+use lib.ListN.{getD, take}
+use Rattle.circuit.specs.declared.Found.the-variants.{Nowhere}
+use Rattle.circuit.specs.File.{either}
 use Rattle.circuit.specs.Count.{by-test, range, length-range, getD-range, getD-of}
 use Rattle.circuit.specs.Meaning.{listOf}
 use Rattle.circuit.specs.Form.{firstBroken}
-use Rattle.circuit.specs.Starts.{no-bits, lists-numbered}
+use Rattle.circuit.specs.Numbers.{lists-numbered}
+use Rattle.circuit.specs.Starts.{no-bits}
 use Rattle.circuit.specs.Earlier.{notBelow}
 use Rattle.circuit.specs.Partner.{isEmpty}
 

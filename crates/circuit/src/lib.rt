@@ -1,7 +1,13 @@
 // The circuit file: records of 16 bytes, the refusals 1 to 7, and what the bytes mean. The one crate that knows how a record lies in bytes.
-// `records` reads a record's parts. What each function answers is a definition of specs/, which follow 01 sentence by sentence.
+// `records` reads a record's parts, `check` answers the checks 1 to 7 (`sizes` 2, 6 and 7, `form` 3, `earlier` 4, `partner` 5), `lists` says where lists and inputs stand,
+// and `parts` reads bad states, constraints and inputs of an accepted file. What each function answers is a definition of specs/, which follow 01 sentence by sentence.
+pub mod answers;
+pub mod check;
+pub mod earlier;
 pub mod form;
 pub mod lists;
+pub mod partner;
+pub mod parts;
 pub mod records;
 pub mod sizes;
 

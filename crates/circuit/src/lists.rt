@@ -1,4 +1,4 @@
-// The lists: where each one's bits stand, and the largest gate of each, each found once in one pass. See specs/Starts.antt and specs/Tops.antt.
+// The lists, and the inputs: where each one's bits stand, and the largest gate of each list, each found once in one pass. See specs/Starts.antt and specs/Tops.antt.
 use crate::records::field_at;
 use crate::records::kind_byte_at;
 ghost use mathlib.Core.Path.{_≡_};
@@ -6,30 +6,46 @@ ghost use Rattle.circuit.specs.File.{countOf};
 ghost use Prim.Native.Nat.{max};
 ghost use Rattle.circuit.specs.declared.Found.the-variants.{Nowhere};
 ghost use Rattle.circuit.specs.Form.{firstBroken};
-ghost use Rattle.circuit.specs.Starts.{startsOf, Regular};
+ghost use Rattle.circuit.specs.Starts.{startsOf, Regular, Ends};
 ghost use Rattle.circuit.specs.Tops.{topsOf, topAt};
 
-// The record at which each list number starts, and where the last one ends: list k is from entry k to entry k + 1.
-pub fn list_starts(c: &[u8], gates: usize, list_bits: usize) -> [u16; 65]
-    requires { ⌜ Regular (now c) × (gates ≡ countOf (now c) 0 13) × («list_bits» ≡ countOf (now c) 20 20) ⌝ }
-    ensures { λ r. ⌜ r ≡ startsOf (now (c .entry)) ⌝ }
+// The record at which each number of one kind starts, 20 for lists and 23 for inputs, where `end` is past the last of their bits.
+fn starts_of(c: &[u8], kind: u8, end: usize) -> [u16; 65]
+    requires { ⌜ Ends (now c) kind end ⌝ }
+    ensures { λ r. ⌜ r ≡ startsOf (now (c .entry)) kind ⌝ }
 {
     let records = c.len() / 16;
-    let end = (gates + list_bits) as u16;
-    let mut starts = [end; 65];
+    let past = end as u16;
+    let mut starts = [past; 65];
     let mut next: usize = 0;
     let mut n: usize = 0;
     while n < records {
-        let kind = kind_byte_at(c, n);
+        let byte = kind_byte_at(c, n);
         let k = field_at(c, n, 0) as usize;
         let at = n as u16;
         n += 1;
-        if (kind == 20) & (k == next) {
+        if (byte == kind) & (k == next) {
             starts[next] = at;
             next += 1;
         }
     }
     starts
+}
+
+// List k has its bits in the records from entry k to entry k + 1.
+pub fn list_starts(c: &[u8], gates: usize, list_bits: usize) -> [u16; 65]
+    requires { ⌜ Regular (now c) × (gates ≡ countOf (now c) 0 13) × («list_bits» ≡ countOf (now c) 20 20) ⌝ }
+    ensures { λ r. ⌜ r ≡ startsOf (now (c .entry)) 20 ⌝ }
+{
+    starts_of(c, 20, gates + list_bits)
+}
+
+// Input k has its bits in the records from entry k to entry k + 1.
+pub fn input_starts(c: &[u8]) -> [u16; 65]
+    requires { ⌜ Regular (now c) ⌝ }
+    ensures { λ r. ⌜ r ≡ startsOf (now (c .entry)) 23 ⌝ }
+{
+    starts_of(c, 23, c.len() / 16)
 }
 
 fn larger(a: usize, b: usize) -> usize

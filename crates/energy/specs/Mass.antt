@@ -76,7 +76,7 @@ unfolding mass
 mass-joinPair p q c m = omega (arith, sizes-add (keyOf p q, c) (m .pairs))
 
 -- what both ways of a test keep below a bound
-either : (b : Bool) (x y : Model) (k : ℕ) → mass x ≤ k → mass y ≤ k → mass (cond b x y) ≤ k
+pub either : (b : Bool) (x y : Model) (k : ℕ) → mass x ≤ k → mass y ≤ k → mass (cond b x y) ≤ k
 either true x y k h i = h
 either false x y k h i = i
 
@@ -216,11 +216,11 @@ pub abs-quarter : (c : ℤ) → 4 * natAbs (quarter c) ≤ natAbs c
 abs-quarter (pos n) = omega arith
 abs-quarter (negsuc n) = omega (arith, abs-neg (pos (suc n / 4)))
 
-sizes-half : (l : List ℤ) → 2 * sizes (map half l) ≤ sizes l
+pub sizes-half : (l : List ℤ) → 2 * sizes (map half l) ≤ sizes l
 sizes-half [] = omega arith
 sizes-half (c ∷ l) = omega (arith, sizes-half l, abs-half c)
 
-sizes-quarters : (s : List Entry) → 4 * sizes (weights (quarters s)) ≤ sizes (weights s)
+pub sizes-quarters : (s : List Entry) → 4 * sizes (weights (quarters s)) ≤ sizes (weights s)
 sizes-quarters [] = omega arith
 sizes-quarters (e ∷ s) = omega (arith, sizes-quarters s, abs-quarter (e .1))
 

@@ -3,17 +3,20 @@
 use mathlib.Core.Bool.{Bool, true, false, not, _&&_, _||_, cond, Bool·beq}
 use mathlib.Core.List.{List, [], _∷_, _++_, map}
 use mathlib.Core.Path.{_≡_}
-use Rattle.circuit.specs.File.{field, kindAt, byte1}
-use Prim.Native.Nat.{ℕ, zero, suc, _+_, _*_, _-_, _≤_, _<_}
+use Rattle.circuit.specs.File.{field, kindAt, byte1, nidAt}
+use Rattle.evaluator.specs.declared.answer.Listing.{Listing}
+use Prim.Native.Nat.{ℕ, zero, suc, _+_, _*_, _-_, _/_, _%_, _≤_, _<_}
 use lib.Dec.{eqb, ltb}
-use lib.ListN.{length, getD, take}
+use lib.ListN.{length, getD, set, take, replicate}
 use Rattle.penalty.specs.Rule.{parity, majority}
 use Rattle.circuit.specs.declared.GateKind.{GateKind}
 use Rattle.circuit.specs.declared.GateKind.the-variants as kind
 use Rattle.units.specs.declared.Qubit.{Qubit}
-use Rattle.units.specs.Name.{qubit}
+use Rattle.units.specs.Name.{qubit, gate}
 use Rattle.evaluator.specs.declared.rules.Rule.{Rule}
 use Rattle.evaluator.specs.declared.rules.Rule.the-variants as rule
+use Rattle.evaluator.specs.declared.rules.Adder.{Adder}
+use Rattle.evaluator.specs.declared.rules.Adder.the-variants as adder
 use Rattle.evaluator.specs.declared.rules.Act.{Act}
 use Rattle.evaluator.specs.declared.rules.Act.the-variants as act
 use Rattle.evaluator.specs.declared.rules.Few.{Few}
@@ -21,8 +24,19 @@ use Rattle.evaluator.specs.declared.rules.Part.{Part}
 use Rattle.evaluator.specs.declared.rules.Operands.{Operands}
 use Rattle.evaluator.specs.declared.rules.Reading.{Reading}
 use Rattle.evaluator.specs.Rules.{Law, Not, And, Nand, Matriarch1, Or, AuxHalfAdder, CarryHalfAdder, ResultHalfAdder, AuxFullAdder, CarryFullAdder, ResultFullAdder, Quotient, Remainder, Invalid}
-use Rattle.evaluator.specs.Need.{Got}
-use Rattle.evaluator.specs.Layout.{named}
+use Rattle.evaluator.specs.Need.{Got, table, stopped, decide, isTrue, bit, put, number, bitOf}
+use Rattle.evaluator.specs.declared.Went.{Went}
+use Rattle.evaluator.specs.declared.Went.the-variants.{On, Stopped}
+use Rattle.evaluator.specs.declared.Stop.the-variants.{NoQubit, ZeroDivisor, NotGiven}
+use Rattle.evaluator.specs.declared.settle.Value.{Value}
+use Rattle.evaluator.specs.declared.settle.Value.the-variants as value
+use Rattle.energy.specs.Model.{low, high}
+use Rattle.evaluator.specs.declared.needs.Cursor.{Cursor}
+use Rattle.evaluator.specs.declared.needs.Next.{Next}
+use Rattle.evaluator.specs.declared.needs.Next.the-variants as next
+use lib.IntN.{ℤ}
+use Rattle.circuit.specs.Meaning.{circuitOf}
+use Rattle.evaluator.specs.Layout.{named, InputsLaid}
 
 -- a gate's qubit, by the table of entries
 abbrev pub nameIn : List ℕ → ℕ → ℕ
@@ -63,22 +77,30 @@ resultRule kind.ResultFullAdder i n d x y z = rule.ResultFullAdder x y z
 resultRule kind.Quotient i n d x y z = rule.Quotient i n d
 resultRule kind.Remainder i n d x y z = rule.Remainder i n d
 
+abbrev pub adderOf : GateKind → Adder
+adderOf kind.ConstFalse = adder.Neither
+adderOf kind.ConstTrue = adder.Neither
+adderOf kind.InputBit = adder.Neither
+adderOf kind.Not = adder.Neither
+adderOf kind.And = adder.Neither
+adderOf kind.Nand = adder.Neither
+adderOf kind.Or = adder.Neither
+adderOf kind.Matriarch1 = adder.Neither
+adderOf kind.CarryHalfAdder = adder.Neither
+adderOf kind.ResultHalfAdder = adder.Half
+adderOf kind.CarryFullAdder = adder.Neither
+adderOf kind.ResultFullAdder = adder.Full
+adderOf kind.Quotient = adder.Neither
+adderOf kind.Remainder = adder.Neither
+
 -- of an adder one of two rules, of any other gate none
+abbrev pub byAdder : Adder → Rule → Rule → Rule
+byAdder adder.Neither h f = rule.Invalid
+byAdder adder.Half h f = h
+byAdder adder.Full h f = f
+
 abbrev pub adderRule : GateKind → Rule → Rule → Rule
-adderRule kind.ConstFalse h f = rule.Invalid
-adderRule kind.ConstTrue h f = rule.Invalid
-adderRule kind.InputBit h f = rule.Invalid
-adderRule kind.Not h f = rule.Invalid
-adderRule kind.And h f = rule.Invalid
-adderRule kind.Nand h f = rule.Invalid
-adderRule kind.Or h f = rule.Invalid
-adderRule kind.Matriarch1 h f = rule.Invalid
-adderRule kind.CarryHalfAdder h f = rule.Invalid
-adderRule kind.ResultHalfAdder h f = h
-adderRule kind.CarryFullAdder h f = rule.Invalid
-adderRule kind.ResultFullAdder h f = f
-adderRule kind.Quotient h f = rule.Invalid
-adderRule kind.Remainder h f = rule.Invalid
+adderRule k h f = byAdder (adderOf k) h f
 
 -- ---- what a rule reads and does
 
@@ -226,3 +248,91 @@ pub record OperandAsked (size : ℕ) (o : Operands) (i : ℕ) : Type 0 where
   pub first : 16 * (o .first .from + o .first .bits) ≤ size
   pub second : 16 * (o .second .from + o .second .bits) ≤ size
   pub inside : i < countOf o
+
+-- ---- the value of a rule
+
+-- of a division, from the two numbers: the remainder or the quotient
+abbrev pub dividedBy : Bool → ℕ → ℕ → ℕ → Value
+dividedBy rest i n d = cond (eqb d 0) value.ZeroDivisor (value.Known (bitOf i (cond rest (n % d) (n / d))))
+
+-- n and d are the numbers of the two lists
+abbrev pub valueAs : Rule → Few → ℕ → ℕ → List ℕ → Act → Value
+valueAs r f n d t act.Plain = value.Known (valueBy r (isTrue t (f .x1 .0)) (isTrue t (f .x2 .0)) (isTrue t (f .x3 .0)))
+valueAs r f n d t (act.Quotient i k l) = dividedBy false i n d
+valueAs r f n d t (act.Remainder i k l) = dividedBy true i n d
+valueAs r f n d t act.Nothing = value.NotGiven
+
+unfoldable pub valueIn : Rule → Operands → List ℕ → List ℕ → List ℕ → Value
+valueIn r o b qubits t =
+    valueAs r (o .few) (number t (bitsAt b qubits (o .first))) (number t (bitsAt b qubits (o .second))) t (actOf r)
+
+-- what becomes of q
+abbrev pub settled : Value → ℕ → List ℕ → Got
+settled (value.Known v) q t = put q v t
+settled value.ZeroDivisor q t = stopped (ZeroDivisor (qubit q))
+settled value.NotGiven q t = stopped (NotGiven (qubit q))
+
+pub record PartsAsked (size : ℕ) (o : Operands) : Type 0 where
+  pub first : 16 * (o .first .from + o .first .bits) ≤ size
+  pub second : 16 * (o .second .from + o .second .bits) ≤ size
+  pub short : o .first .bits ≤ 64
+  pub short-too : o .second .bits ≤ 64
+
+-- ---- steps
+
+abbrev pub isStop : Went → Bool
+isStop On = false
+isStop (Stopped x) = true
+
+-- a fixed value's byte: 2 is fixed true
+abbrev pub fixedBit : ℕ → ℕ
+fixedBit f = bit (eqb f 2)
+
+-- ---- the walk over the rows
+
+-- q is the next row, and k the next pair; pairs whose lower qubit is a row before q come first
+abbrev pub cursor : ℕ → ℕ → Cursor
+cursor q k = record { q = q; k = k }
+
+abbrev pub rowNext : List ℕ → ℕ → ℕ → Next
+rowNext rows q k = cond (ltb q (length rows)) (cond (eqb (getD rows q 0) 1) (next.Name (qubit q) (cursor (q + 1) k)) (next.Pass (cursor (q + 1) k))) next.End
+
+unfoldable pub nextOf : List ℕ → List ℕ → ℕ → Cursor → Next
+nextOf rows keys count c =
+    let q : ℕ = c .q in
+    let k : ℕ = c .k in
+    cond (ltb k count) (cond (ltb (low (getD keys k 0)) q) (next.Name (qubit (high (getD keys k 0))) (cursor q (k + 1))) (rowNext rows q k)) (rowNext rows q k)
+
+-- ---- giving a bit
+
+-- every gate's qubit has a value byte
+abbrev pub Slots : List ℕ → ℕ → Type 0
+Slots qubits n = (g : ℕ) → getD qubits g 0 ≤ n
+
+abbrev pub setBit : List ℕ → ℕ → Bool → List ℕ → Got
+setBit qubits g v t = decide (eqb (getD qubits g 0) 0) (λ t. stopped (NoQubit (gate g))) (λ t. table (set t (getD qubits g 0 - 1) (bit v))) t
+
+pub record GiveAsked (b qubits : List ℕ) (n from bits : ℕ) : Type 0 where
+  pub slots : Slots qubits n
+  pub there : 16 * (from + bits) ≤ length b
+  pub gates : (j : ℕ) → j < bits → field b (from + j) 1 < length qubits
+
+pub record InputsAsked (b starts qubits : List ℕ) (n : ℕ) (vs : List ℤ) : Type 0 where
+  pub slots : Slots qubits n
+  pub laid : InputsLaid b starts
+  pub gates : (k j : ℕ) → k < length (circuitOf b .inputs) → getD starts k 0 + j < getD starts (k + 1) 0 → field b (getD starts k 0 + j) 1 < length qubits
+  pub count : length vs ≡ length (circuitOf b .inputs)
+
+-- ---- the true bad states
+
+-- the nids of the true ones of m bad states from record n on
+unfoldable pub trueFrom : List ℕ → List ℕ → List ℕ → ℕ → ℕ → List ℕ
+trueFrom b qubits t n zero = []
+trueFrom b qubits t n (suc m) =
+    cond (isTrue t (nameIn qubits (field b n 0))) (nidAt b n ∷ trueFrom b qubits t (suc n) m) (trueFrom b qubits t (suc n) m)
+
+abbrev pub listedAs : List ℕ → Listing
+listedAs ns = record { nids = ns ++ replicate (64 - length ns) 0; count = length ns }
+
+abbrev pub listedOf : List ℕ → List ℕ → List ℕ → ℕ → ℕ → Listing
+listedOf b qubits t n m = listedAs (trueFrom b qubits t n m)

@@ -5,3 +5,8 @@ pub mod Ran
 pub mod Samples
 pub mod Layout
 pub mod Code
+pub mod Fuel
+pub mod Laws
+pub mod Accepted
+pub mod Standing
+pub mod Runs

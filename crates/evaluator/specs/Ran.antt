@@ -14,30 +14,24 @@ use Rattle.energy.specs.Circuit.{Circuit, Bad}
 use Rattle.energy.specs.Model.{Model, Entry, low, high, energyIn}
 use Rattle.numbering.specs.State.{State, qubitOf}
 use Rattle.numbering.specs.Numbered.{badGates}
+use Rattle.circuit.specs.Meaning.{circuitOf}
+use Rattle.store.specs.Tables.{Tables, modelOf}
 use Rattle.evaluator.specs.declared.Stop.{Stop}
-use Rattle.evaluator.specs.declared.Stop.the-variants.{ShortTable, ValueCount, NoQubit, NotUsedUp, ZeroDivisor, NotGiven}
+use Rattle.evaluator.specs.declared.Stop.the-variants as stop
+use Rattle.circuit.specs.declared.Refusal.{Refusal}
+use Rattle.circuit.specs.declared.Refusal.the-variants.{FewValues, OtherCount, NoQubit, NotUsedUp, DivisorZero, NotGiven}
 use Rattle.evaluator.specs.declared.Outcome.the-variants.{Ran, Refused}
 use Rattle.evaluator.specs.declared.Run.{Run}
 use Rattle.evaluator.specs.Need.{Got, table, stopped, andThen, each, isTrue, Net, needOf}
 use Rattle.evaluator.specs.Give.{giveAll}
 
--- ---- this paper's numbers and places
+-- ---- the refusal that a stop is
 
-abbrev pub numberOf : Stop → ℕ
-numberOf ShortTable = 10
-numberOf ValueCount = 11
-numberOf (NoQubit g) = 12
-numberOf (NotUsedUp k) = 13
-numberOf (ZeroDivisor q) = 14
-numberOf (NotGiven q) = 15
-
-abbrev pub placeOf : Stop → ℕ
-placeOf ShortTable = 0
-placeOf ValueCount = 0
-placeOf (NoQubit g) = g .0
-placeOf (NotUsedUp k) = k
-placeOf (ZeroDivisor q) = q .0
-placeOf (NotGiven q) = q .0
+abbrev pub refusalOf : Stop → Refusal
+refusalOf (stop.NoQubit g) = NoQubit g
+refusalOf (stop.NotUsedUp k) = NotUsedUp (record { 0 = k })
+refusalOf (stop.ZeroDivisor q) = DivisorZero q
+refusalOf (stop.NotGiven q) = NotGiven q
 
 -- ---- what a run starts from: the circuit, its numbering, and the finished model
 
@@ -46,6 +40,10 @@ pub record Built : Type 0 where
   pub state : State
   pub model : Model
   pub form : Form
+
+-- what the file and the tables of the build say
+abbrev pub builtOf : List ℕ → State → Form → Tables → Built
+builtOf b s form t = record { circuit = circuitOf b; state = s; model = modelOf t; form = form }
 
 abbrev pub netOf : Built → Net
 netOf u = record { circuit = u .circuit; state = u .state; fixed = u .model .fixed }
@@ -57,22 +55,27 @@ unfoldable pub marked : ℕ → List ℕ → List ℕ
 marked q [] = []
 marked q (f ∷ fs) = cond (eqb f 1) (q ∷ marked (suc q) fs) (marked (suc q) fs)
 
--- the higher neighbours of q, as the pairs have them
-unfoldable pub higher : ℕ → List Entry → List ℕ
+-- the keys of the pairs, rising
+unfoldable pub keysOf : List Entry → List ℕ
+keysOf [] = []
+keysOf (e ∷ s) = e .0 ∷ keysOf s
+
+-- the higher neighbours of q, as the keys have them
+unfoldable pub higher : ℕ → List ℕ → List ℕ
 higher q [] = []
-higher q (e ∷ s) = cond (eqb (low (e .0)) q) (high (e .0) ∷ higher q s) (higher q s)
+higher q (k ∷ ks) = cond (eqb (low k) q) (high k ∷ higher q ks) (higher q ks)
 
 -- each of these names, with its higher neighbours
-unfoldable pub withHigher : List Entry → List ℕ → List ℕ
-withHigher s [] = []
-withHigher s (q ∷ qs) = (q ∷ higher q s) ++ withHigher s qs
+unfoldable pub withHigher : List ℕ → List ℕ → List ℕ
+withHigher ks [] = []
+withHigher ks (q ∷ qs) = (q ∷ higher q ks) ++ withHigher ks qs
 
 abbrev pub badQubits : Circuit → State → List ℕ
 badQubits c s = map (qubitOf s) (badGates c)
 
 abbrev pub needed : Built → List ℕ
 needed u =
-    marked 0 (u .model .hasLinear) ++ (withHigher (u .model .pairs) (marked 0 (u .model .hasRow)) ++ badQubits (u .circuit) (u .state))
+    marked 0 (u .model .hasLinear) ++ (withHigher (keysOf (u .model .pairs)) (marked 0 (u .model .hasRow)) ++ badQubits (u .circuit) (u .state))
 
 -- ---- the answer
 
@@ -97,22 +100,22 @@ done r t = record { run = r; values = t }
 abbrev pub listing : List ℕ → List ℕ
 listing ns = ns ++ replicate (64 - length ns) 0
 
-abbrev pub refusal : Stop → Run
+abbrev pub refusal : Refusal → Run
 refusal x = record { outcome = Refused x; nids = replicate 64 0; count = 0 }
 
 -- "A run is a hit when the energy is 0."
 abbrev pub answer : Form → ℤ → List ℕ → Run
 answer form h ns = record { outcome = Ran (energyOf h form) (eqZ h (pos 0)); nids = listing ns; count = length ns }
 
--- "set the value bytes of the model's qubits to 2 (unknown); later bytes stay"
-abbrev pub unknown : ℕ → List ℕ → List ℕ
-unknown n t = replicate n 2 ++ drop n t
+-- "the value bytes of the model's qubits", unknown
+abbrev pub unknowns : Built → List ℕ
+unknowns u = replicate (u .state .next) 2
 
 -- "11 to 15 set the value bytes of the model's qubits to 2 (unknown). After success such a byte is the qubit's value if it was given or needed, else 2."
-abbrev pub finished : Built → List ℕ → Got → Done
-finished u t₀ (table t) =
+abbrev pub finished : Built → Got → Done
+finished u (table t) =
     done (answer (u .form) (energyIn (u .form) (settingOf t) (u .model)) (trueNids (u .state) (u .circuit .bads) t)) t
-finished u t₀ (stopped x) = done (refusal x) t₀
+finished u (stopped x) = done (refusal (refusalOf x)) (unknowns u)
 
 -- one of two answers: of functions, so that the other is not computed
 abbrev pub choose : Bool → (List ℕ → Done) → (List ℕ → Done) → List ℕ → Done
@@ -121,10 +124,18 @@ choose false f h t = h t
 
 -- the values of all that is needed, from a table of unknowns
 unfoldable pub valued : Built → List ℤ → List ℕ → Got
-valued u vs t = andThen (giveAll (u .state) 0 (u .circuit .inputs) vs t) (each (needOf (netOf u)) (needed u))
+valued u vs t = andThen (giveAll (u .state .qubits) 0 (u .circuit .inputs) vs t) (each (needOf (netOf u)) (needed u))
 
--- "10 changes no value byte; 11 next; then, for each input in order, 12 over its bits and 13; then 14 and 15 as met."
+-- on the value bytes of the model's qubits: "11 next; then, for each input in order, 12 over its bits and 13; then 14 and 15 as met"
+unfoldable pub within : Built → List ℤ → Done
+within u vs =
+    choose (eqb (length vs) (length (u .circuit .inputs))) (λ t. finished u (valued u vs t)) (done (refusal OtherCount)) (unknowns u)
+
+-- "later bytes stay"
+abbrev pub beside : List ℕ → Done → Done
+beside later d = done (d .run) (d .values ++ later)
+
+-- "10 changes no value byte"
 unfoldable pub ran : Built → List ℤ → List ℕ → Done
 ran u vs t =
-    choose (ltb (length t) (u .state .next)) (done (refusal ShortTable))
-    (λ t. choose (eqb (length vs) (length (u .circuit .inputs))) (λ t. finished u t (valued u vs t)) (done (refusal ValueCount)) (unknown (u .state .next) t)) t
+    choose (ltb (length t) (u .state .next)) (done (refusal FewValues)) (λ t. beside (drop (u .state .next) t) (within u vs)) t

@@ -18,11 +18,11 @@ use Rattle.energy.specs.Finished.{finished, inForm}
 use Rattle.numbering.specs.State.{State, mk, namesOf, start}
 use Rattle.numbering.specs.Visit.{oneName, threeNames, take, each as visitEach, process, step as visitStep, visit, visitOf}
 use Rattle.numbering.specs.Numbered.{Outcome, refused, numbered, number, visitRoots, joinNames, resultsFrom, sharersFrom, namedOf}
-use Rattle.evaluator.specs.declared.Stop.the-variants.{ShortTable, ValueCount, NoQubit, NotUsedUp, ZeroDivisor, NotGiven}
+use Rattle.circuit.specs.declared.Refusal.the-variants.{FewValues, OtherCount, NoQubit, NotUsedUp, DivisorZero, NotGiven}
 use Rattle.evaluator.specs.Rules.{lawOf, depth}
 use Rattle.evaluator.specs.Need.{each, number as numberIn, settle, follow, step, need, needOf}
 use Rattle.evaluator.specs.Give.{giveBits, giveAll}
-use Rattle.evaluator.specs.Ran.{Built, Done, done, refusal, answer, marked, higher, withHigher, trueNids, valued, ran}
+use Rattle.evaluator.specs.Ran.{Built, Done, done, refusal, answer, marked, keysOf, higher, withHigher, trueNids, valued, within, ran}
 
 -- the finished model of a circuit, in a form
 abbrev builtFrom : Form → Circuit → Outcome → Built
@@ -51,23 +51,23 @@ runP form v = run form P (v ∷ []) (7 ∷ 7 ∷ 7 ∷ 7 ∷ 7 ∷ [])
 pub starred : (runP Binary (pos 3) ≡ done (answer Binary (pos 0) (30 ∷ [])) (2 ∷ 2 ∷ 1 ∷ 1 ∷ 1 ∷ []))
     × (runP Binary (pos 1) ≡ done (answer Binary (pos 4) (30 ∷ [])) (2 ∷ 2 ∷ 1 ∷ 0 ∷ 1 ∷ []))
     × (runP Binary (negsuc 0) ≡ done (answer Binary (pos 12) (30 ∷ [])) (2 ∷ 2 ∷ 0 ∷ 0 ∷ 1 ∷ []))
-    × (runP Binary (pos 4) ≡ done (refusal (NotUsedUp 0)) (2 ∷ 2 ∷ 2 ∷ 2 ∷ 2 ∷ []))
-    × (runP Binary (negsuc 3) ≡ done (refusal (NotUsedUp 0)) (2 ∷ 2 ∷ 2 ∷ 2 ∷ 2 ∷ []))
-unfolding P start number visitRoots joinNames oneName threeNames take visitEach process visitStep visit visitOf resultsFrom sharersFrom name wire add addLinear addPair place placeAll give without fix fixAll linearBy pairsBy energyBy lawOf depth each numberIn settle follow step need needOf giveBits giveAll marked higher withHigher trueNids valued ran rowOf rows
+    × (runP Binary (pos 4) ≡ done (refusal (NotUsedUp (record { 0 = 0 }))) (2 ∷ 2 ∷ 2 ∷ 2 ∷ 2 ∷ []))
+    × (runP Binary (negsuc 3) ≡ done (refusal (NotUsedUp (record { 0 = 0 }))) (2 ∷ 2 ∷ 2 ∷ 2 ∷ 2 ∷ []))
+unfolding P start number visitRoots joinNames oneName threeNames take visitEach process visitStep visit visitOf resultsFrom sharersFrom name wire add addLinear addPair place placeAll give without fix fixAll linearBy pairsBy energyBy lawOf depth each numberIn settle follow step need needOf giveBits giveAll marked keysOf higher withHigher trueNids valued within ran rowOf rows
 starred = (refl, refl, refl, refl, refl)
 
 -- the same in the Ising form
 P-ising : (runP Ising (pos 3) ≡ done (answer Ising (pos 0) (30 ∷ [])) (2 ∷ 2 ∷ 1 ∷ 1 ∷ 1 ∷ []))
     × (runP Ising (pos 1) ≡ done (answer Ising (pos 4) (30 ∷ [])) (2 ∷ 2 ∷ 1 ∷ 0 ∷ 1 ∷ []))
     × (runP Ising (negsuc 0) ≡ done (answer Ising (pos 12) (30 ∷ [])) (2 ∷ 2 ∷ 0 ∷ 0 ∷ 1 ∷ []))
-unfolding P start number visitRoots joinNames oneName threeNames take visitEach process visitStep visit visitOf resultsFrom sharersFrom name wire add addLinear addPair place placeAll give without fix fixAll ends ising linearBy pairsBy energyBy lawOf depth each numberIn settle follow step need needOf giveBits giveAll marked higher withHigher trueNids valued ran rowOf rows
+unfolding P start number visitRoots joinNames oneName threeNames take visitEach process visitStep visit visitOf resultsFrom sharersFrom name wire add addLinear addPair place placeAll give without fix fixAll ends ising linearBy pairsBy energyBy lawOf depth each numberIn settle follow step need needOf giveBits giveAll marked keysOf higher withHigher trueNids valued within ran rowOf rows
 P-ising = (refl, refl, refl)
 
 -- 10 changes no byte, and later bytes stay; 11 sets the model's bytes to 2
-P-tables : (run Binary P (pos 3 ∷ []) (7 ∷ 7 ∷ 7 ∷ 7 ∷ []) ≡ done (refusal ShortTable) (7 ∷ 7 ∷ 7 ∷ 7 ∷ []))
-    × (run Binary P [] (7 ∷ 7 ∷ 7 ∷ 7 ∷ 7 ∷ 7 ∷ []) ≡ done (refusal ValueCount) (2 ∷ 2 ∷ 2 ∷ 2 ∷ 2 ∷ 7 ∷ []))
+P-tables : (run Binary P (pos 3 ∷ []) (7 ∷ 7 ∷ 7 ∷ 7 ∷ []) ≡ done (refusal FewValues) (7 ∷ 7 ∷ 7 ∷ 7 ∷ []))
+    × (run Binary P [] (7 ∷ 7 ∷ 7 ∷ 7 ∷ 7 ∷ 7 ∷ []) ≡ done (refusal OtherCount) (2 ∷ 2 ∷ 2 ∷ 2 ∷ 2 ∷ 7 ∷ []))
     × (run Binary P (pos 0 ∷ []) (7 ∷ 7 ∷ 7 ∷ 7 ∷ 7 ∷ 7 ∷ []) ≡ done (answer Binary (pos 12) (30 ∷ [])) (2 ∷ 2 ∷ 0 ∷ 0 ∷ 1 ∷ 7 ∷ []))
-unfolding P start number visitRoots joinNames oneName threeNames take visitEach process visitStep visit visitOf resultsFrom sharersFrom name wire add addLinear addPair place placeAll give without fix fixAll linearBy pairsBy energyBy lawOf depth each numberIn settle follow step need needOf giveBits giveAll marked higher withHigher trueNids valued ran rowOf rows
+unfolding P start number visitRoots joinNames oneName threeNames take visitEach process visitStep visit visitOf resultsFrom sharersFrom name wire add addLinear addPair place placeAll give without fix fixAll linearBy pairsBy energyBy lawOf depth each numberIn settle follow step need needOf giveBits giveAll marked keysOf higher withHigher trueNids valued within ran rowOf rows
 P-tables = (refl, refl, refl)
 
 -- Bit 0 of the quotient, or remainder, of a list of two bits by one of one: of 3 by 1, of 2 by 1 and of 3 by 0. The division is needed through the Not.
@@ -87,8 +87,8 @@ divisions : (runD (Quotient 0 (0 ∷ 1 ∷ []) (2 ∷ [])) (pos 3) (pos 1) ≡ d
     × (runD (Quotient 0 (0 ∷ 1 ∷ []) (2 ∷ [])) (pos 2) (pos 1) ≡ done (answer Binary (pos 0) (9 ∷ [])) (2 ∷ 2 ∷ 0 ∷ 0 ∷ 1 ∷ 1 ∷ 1 ∷ []))
     × (runD (Remainder 0 (0 ∷ 1 ∷ []) (2 ∷ [])) (pos 3) (pos 1) ≡ done (answer Binary (pos 0) (9 ∷ [])) (2 ∷ 2 ∷ 0 ∷ 1 ∷ 1 ∷ 1 ∷ 1 ∷ []))
     × (runD (Quotient 200 (0 ∷ 1 ∷ []) (2 ∷ [])) (pos 3) (pos 1) ≡ done (answer Binary (pos 0) (9 ∷ [])) (2 ∷ 2 ∷ 0 ∷ 1 ∷ 1 ∷ 1 ∷ 1 ∷ []))
-    × (runD (Quotient 0 (0 ∷ 1 ∷ []) (2 ∷ [])) (pos 3) (pos 0) ≡ done (refusal (ZeroDivisor (qubit 2))) (replicate 7 2))
-unfolding D start number visitRoots joinNames oneName threeNames take visitEach process visitStep visit visitOf resultsFrom sharersFrom name wire add addLinear addPair place placeAll give without fix fixAll linearBy pairsBy energyBy lawOf depth each numberIn settle follow step need needOf giveBits giveAll marked higher withHigher trueNids valued ran rowOf rows
+    × (runD (Quotient 0 (0 ∷ 1 ∷ []) (2 ∷ [])) (pos 3) (pos 0) ≡ done (refusal (DivisorZero (qubit 2))) (replicate 7 2))
+unfolding D start number visitRoots joinNames oneName threeNames take visitEach process visitStep visit visitOf resultsFrom sharersFrom name wire add addLinear addPair place placeAll give without fix fixAll linearBy pairsBy energyBy lawOf depth each numberIn settle follow step need needOf giveBits giveAll marked keysOf higher withHigher trueNids valued within ran rowOf rows
 divisions = (refl, refl, refl, refl, refl)
 
 -- an input bit that is listed and unreached, one that is needed and not listed, and one that a constraint fixes; a given value comes before a fixed one
@@ -104,7 +104,7 @@ U bits fixedTo =
 inputs : (run Binary (U (0 ∷ 2 ∷ []) []) (pos 1 ∷ []) (replicate 5 2) ≡ done (refusal (NoQubit (gate 2))) (replicate 5 2))
     × (run Binary (U (0 ∷ []) []) (pos 1 ∷ []) (replicate 5 2) ≡ done (refusal (NotGiven (qubit 3))) (replicate 5 2))
     × (run Binary (U (0 ∷ 1 ∷ 2 ∷ []) (2 ∷ [])) (pos 2 ∷ []) (replicate 6 2) ≡ done (answer Binary (pos 0) (5 ∷ [])) (2 ∷ 2 ∷ 0 ∷ 1 ∷ 1 ∷ 0 ∷ []))
-unfolding U start number visitRoots joinNames oneName threeNames take visitEach process visitStep visit visitOf resultsFrom sharersFrom name wire add addLinear addPair place placeAll give without fix fixAll linearBy pairsBy energyBy lawOf depth each numberIn settle follow step need needOf giveBits giveAll marked higher withHigher trueNids valued ran rowOf rows
+unfolding U start number visitRoots joinNames oneName threeNames take visitEach process visitStep visit visitOf resultsFrom sharersFrom name wire add addLinear addPair place placeAll give without fix fixAll linearBy pairsBy energyBy lawOf depth each numberIn settle follow step need needOf giveBits giveAll marked keysOf higher withHigher trueNids valued within ran rowOf rows
 inputs = (refl, refl, refl)
 
 -- Two bad states: the join's value is not needed, as the joined qubit is fixed and has no entry left. A false bad state is not listed.
@@ -118,5 +118,5 @@ J =
     }
 
 joins : run Binary J (pos 2 ∷ []) (replicate 5 2) ≡ done (answer Binary (pos 0) (6 ∷ [])) (2 ∷ 2 ∷ 0 ∷ 1 ∷ 2 ∷ [])
-unfolding J start number visitRoots joinNames oneName threeNames take visitEach process visitStep visit visitOf resultsFrom sharersFrom name wire add addLinear addPair place placeAll give without fix fixAll linearBy pairsBy energyBy lawOf depth each numberIn settle follow step need needOf giveBits giveAll marked higher withHigher trueNids valued ran rowOf rows
+unfolding J start number visitRoots joinNames oneName threeNames take visitEach process visitStep visit visitOf resultsFrom sharersFrom name wire add addLinear addPair place placeAll give without fix fixAll linearBy pairsBy energyBy lawOf depth each numberIn settle follow step need needOf giveBits giveAll marked keysOf higher withHigher trueNids valued within ran rowOf rows
 joins = refl

@@ -1,15 +1,19 @@
 // Running inputs on a finished model: the values of the qubits, the energy with its form, the true bad states and the verdict.
 // What each function answers is a definition of specs/, which follow 01's "Running inputs".
+use circuit::Refusal;
 use units::Energy;
 use units::Gate;
 use units::Qubit;
 
+pub mod answer;
+pub mod give;
+pub mod needs;
 pub mod rules;
+pub mod settle;
+pub mod walk;
 
-// Why a run is refused: 10 to 15.
+// Why a run stops while values are given and found: 12 to 15.
 pub enum Stop {
-    ShortTable,
-    ValueCount,
     NoQubit(Gate),
     NotUsedUp(u16),
     ZeroDivisor(Qubit),
@@ -25,7 +29,7 @@ pub enum Went {
 // The energy and the verdict, or why there is none.
 pub enum Outcome {
     Ran(Energy, bool),
-    Refused(Stop),
+    Refused(Refusal),
 }
 
 // The answer of a run: the true bad states are the first `count` of `nids`, in file order.

@@ -11,7 +11,8 @@ ghost use Prim.Native.Nat.{_+_, _*_, _≤_, _<_};
 ghost use lib.ListN.{length, getD};
 ghost use Rattle.units.specs.Name.{qubit};
 ghost use Rattle.circuit.specs.File.{field, kindAt, byte1};
-ghost use Rattle.evaluator.specs.Code.{nameIn, resultRule, adderRule, fewOf, actOf, valueBy, readingOf, ruleBy, joinRule, RuleAsked, ruleAt, PartAsked, partOf, ListsAsked, operandsOf, countOf, fewAt, OperandAsked, read};
+ghost use Rattle.evaluator.specs.declared.rules.Rule.the-variants.{CarryHalfAdder, CarryFullAdder, AuxHalfAdder, AuxFullAdder};
+ghost use Rattle.evaluator.specs.Code.{nameIn, resultRule, adderOf, byAdder, fewOf, actOf, valueBy, readingOf, ruleBy, joinRule, RuleAsked, ruleAt, PartAsked, partOf, ListsAsked, operandsOf, countOf, fewAt, OperandAsked, read};
 
 // The rules by the Rust's names. A division has its index and its lists' numbers.
 pub enum Rule {
@@ -37,6 +38,13 @@ pub enum Rule {
         divisor: u16,
     },
     Invalid,
+}
+
+// Which adder a gate is, if any.
+pub enum Adder {
+    Neither,
+    Half,
+    Full,
 }
 
 // What a rule does once it has read its operands.
@@ -135,25 +143,47 @@ pub fn result_rule(kind: GateKind, index: u8, n: u16, d: u16, x: Qubit, y: Qubit
     }
 }
 
-// Of an adder one of two rules.
-pub fn adder_rule(kind: GateKind, half: Rule, full: Rule) -> Rule
-    ensures { λ r. ⌜ r ≡ adderRule kind half full ⌝ }
+// Which adder a gate of this kind is.
+fn adder_of(kind: GateKind) -> Adder
+    ensures { λ r. ⌜ r ≡ adderOf kind ⌝ }
 {
     match kind {
-        GateKind::ConstFalse => Rule::Invalid,
-        GateKind::ConstTrue => Rule::Invalid,
-        GateKind::InputBit => Rule::Invalid,
-        GateKind::Not => Rule::Invalid,
-        GateKind::And => Rule::Invalid,
-        GateKind::Nand => Rule::Invalid,
-        GateKind::Or => Rule::Invalid,
-        GateKind::Matriarch1 => Rule::Invalid,
-        GateKind::CarryHalfAdder => Rule::Invalid,
-        GateKind::ResultHalfAdder => half,
-        GateKind::CarryFullAdder => Rule::Invalid,
-        GateKind::ResultFullAdder => full,
-        GateKind::Quotient => Rule::Invalid,
-        GateKind::Remainder => Rule::Invalid,
+        GateKind::ConstFalse => Adder::Neither,
+        GateKind::ConstTrue => Adder::Neither,
+        GateKind::InputBit => Adder::Neither,
+        GateKind::Not => Adder::Neither,
+        GateKind::And => Adder::Neither,
+        GateKind::Nand => Adder::Neither,
+        GateKind::Or => Adder::Neither,
+        GateKind::Matriarch1 => Adder::Neither,
+        GateKind::CarryHalfAdder => Adder::Neither,
+        GateKind::ResultHalfAdder => Adder::Half,
+        GateKind::CarryFullAdder => Adder::Neither,
+        GateKind::ResultFullAdder => Adder::Full,
+        GateKind::Quotient => Adder::Neither,
+        GateKind::Remainder => Adder::Neither,
+    }
+}
+
+// The carry's rule.
+fn carry_rule(adder: Adder, x: Qubit, y: Qubit, z: Qubit) -> Rule
+    ensures { λ r. ⌜ r ≡ byAdder adder (CarryHalfAdder x y) (CarryFullAdder x y z) ⌝ }
+{
+    match adder {
+        Adder::Neither => Rule::Invalid,
+        Adder::Half => Rule::CarryHalfAdder(x, y),
+        Adder::Full => Rule::CarryFullAdder(x, y, z),
+    }
+}
+
+// The aux's rule.
+fn aux_rule(adder: Adder, x: Qubit, y: Qubit, z: Qubit) -> Rule
+    ensures { λ r. ⌜ r ≡ byAdder adder (AuxHalfAdder x y) (AuxFullAdder x y z) ⌝ }
+{
+    match adder {
+        Adder::Neither => Rule::Invalid,
+        Adder::Half => Rule::AuxHalfAdder(x, y),
+        Adder::Full => Rule::AuxFullAdder(x, y, z),
     }
 }
 
@@ -402,14 +432,11 @@ fn rule_by(m: Reading, role: u8) -> Rule
     if role == 1 {
         return result_rule(kind, m.index, m.a, m.b, x, y, z);
     }
+    let adder = adder_of(kind);
     if role == 2 {
-        return adder_rule(
-            kind,
-            Rule::CarryHalfAdder(x, y),
-            Rule::CarryFullAdder(x, y, z),
-        );
+        return carry_rule(adder, x, y, z);
     }
-    adder_rule(kind, Rule::AuxHalfAdder(x, y), Rule::AuxFullAdder(x, y, z))
+    aux_rule(adder, x, y, z)
 }
 
 // The rule of join step j, whose name is q.
@@ -457,7 +484,7 @@ pub fn rule_at(
 // ---- what a rule reads
 
 // Where the bits of list k stand.
-fn part_of(starts: &[u16], k: u16) -> Part
+pub fn part_of(starts: &[u16], k: u16) -> Part
     requires { ⌜ PartAsked (now starts) k ⌝ }
     ensures { λ r. ⌜ r ≡ partOf (now (starts .entry)) k ⌝ }
 {

@@ -7,23 +7,24 @@
 --     answer                  what `process` returns
 --     Going, going-start, loop-asked, going-on, going-end    a loop that visits the gates of a list: what is left to do from here is what there was to do
 -- Assumes nothing.
-use mathlib.Core.Path.{_≡_, refl, sym, ap, _∙_}
+use mathlib.Core.Path.{_≡_, refl, sym, _∙_}
 use mathlib.Core.Bool.{Bool, true, false}
 use mathlib.Core.List.{List, [], _∷_, _++_}
 use Prim.Native.Nat.{ℕ, suc, _+_, _*_, _-_, _≤_, _<_}
 use native.Mathlib.Nat.{sub-eq-zero-of-le, sub-zero}
+use native.Mathlib.Numerals.{add-one}
 use native.Mathlib.Omega.{arith}
 use lib.ListN.{length, getD}
-use Rattle.energy.specs.Circuit.{Gate, ConstFalse, node, nodesOf, AllBelow}
-use Rattle.energy.specs.Numbering.{reads}
+use Rattle.energy.specs.Circuit.{ConstFalse, nodesOf, AllBelow}
 use Rattle.circuit.specs.File.{field, kindAt}
+use Rattle.circuit.specs.Count.{range}
 use Rattle.circuit.specs.Meaning.{listOf, gateOf}
 use Rattle.numbering.specs.declared.Act.{Act}
 use Rattle.numbering.specs.State.{State, slot}
-use Rattle.numbering.specs.Visit.{oneName, take, operands, each, process, visitOf, processOf, visits}
+use Rattle.numbering.specs.Visit.{oneName, each, visitOf, processOf, visits}
 use Rattle.numbering.specs.Fuel.{operands-below, reads-below, visit-fresh, visit-had}
-use Rattle.numbering.specs.Laws.{AllHave, Inv, Visited, Visits, within, three-free, each-visited, first-visited, still-none, took, process-visited, visit-visited}
-use Rattle.numbering.specs.Read.{arity, actOf, isDivision, finish, fieldsFrom, bitsFrom, gatesIn, ListAt, Laid, Ready, Fresh, Room, CanFinish, Answer}
+use Rattle.numbering.specs.Laws.{AllHave, Inv, Visited, Visits, within, three-free, each-visited, took, process-visited, visit-visited}
+use Rattle.numbering.specs.Read.{arity, actOf, isDivision, finish, fieldsFrom, gatesFrom, gatesIn, ListAt, Ready, Fresh, Room, CanFinish, Answer}
 use Rattle.numbering.proofs.Ways.{arity-three, share-one, operands-of, divides, gate-is, division-way, other-way}
 
 -- `visit`
@@ -35,7 +36,7 @@ pub had : {b l : List ℕ} {g : ℕ} {s : State} → Ready b l s → (slot s g �
 had {b} {g = g} {s} r n = record { tables = sym (visit-had (gatesIn b) (r .ordered) g s n); qubit = omega arith }
 
 -- the tables after a visit are ready for the next
-ready-with : {b l : List ℕ} {s t : State} → Ready b l s → Inv (gatesIn b) t → Ready b l t
+pub ready-with : {b l : List ℕ} {s t : State} → Ready b l s → Inv (gatesIn b) t → Ready b l t
 ready-with r i = record { laid = r .laid; ordered = r .ordered; small = r .small; inv = i }
 
 -- `process`: m is its measure and d whether the gate is a division
@@ -226,12 +227,21 @@ going-end w = w .same
 more : (n i : ℕ) → i < n → n - i ≡ suc (n - (i + 1))
 more n i h = omega arith
 
+-- one record of a stretch, and the rest of it
+pub gates-more : (b : List ℕ) (i n m : ℕ) → n < m → gatesFrom b i n (m - n) ≡ field b n i ∷ gatesFrom b i (n + 1) (m - (n + 1))
+unfolding gatesFrom range
+gates-more b i n m h = rw (more m n h, add-one n)
+
+pub gates-done : (b : List ℕ) (i n m : ℕ) → m ≤ n → gatesFrom b i n (m - n) ≡ []
+unfolding gatesFrom range
+gates-done b i n m h = rw (sub-eq-zero-of-le h)
+
 pub fields-all : {b l : List ℕ} {at : ℕ} {s₀ : State} (n : ℕ) → Ready b l s₀ → at < length (gatesIn b) → AllBelow at (fieldsFrom b at 0 n)
     → Going b l at (fieldsFrom b at 0 n) s₀ (fieldsFrom b at 0 (n - 0)) s₀
 fields-all {b} {at = at} n ready inside below = rw (sub-zero n) (going-start (fieldsFrom b at 0 n) ready inside below)
 
 pub bits-all : {b l : List ℕ} {at k : ℕ} {s₀ : State} → Ready b l s₀ → at < length (gatesIn b) → ListAt b l k → AllBelow at (listOf b k)
-    → Going b l at (listOf b k) s₀ (bitsFrom b (getD l k 0) (getD l (k + 1) 0 - getD l k 0)) s₀
+    → Going b l at (listOf b k) s₀ (gatesFrom b 1 (getD l k 0) (getD l (k + 1) 0 - getD l k 0)) s₀
 bits-all {b} {k = k} ready inside here below = rw (← here .bits) (going-start (listOf b k) ready inside below)
 
 module _ {b l : List ℕ} {at : ℕ} {all : List ℕ} {s₀ s : State} where
@@ -244,10 +254,9 @@ module _ {b l : List ℕ} {at : ℕ} {all : List ℕ} {s₀ s : State} where
   unfolding fieldsFrom
   fields-done h w = going-end (rw (sub-eq-zero-of-le h) at w)
 
-  pub bits-on : {n m : ℕ} → n < m → Going b l at all s₀ (bitsFrom b n (m - n)) s → Going b l at all s₀ (field b n 1 ∷ bitsFrom b (n + 1) (m - (n + 1))) s
-  unfolding bitsFrom
-  bits-on {n} {m} h w = rw (more m n h) at w
+  pub bits-on : {n m : ℕ} → n < m → Going b l at all s₀ (gatesFrom b 1 n (m - n)) s
+      → Going b l at all s₀ (field b n 1 ∷ gatesFrom b 1 (n + 1) (m - (n + 1))) s
+  bits-on {n} {m} h w = rw (gates-more b 1 n m h) at w
 
-  pub bits-done : {n m : ℕ} → m ≤ n → Going b l at all s₀ (bitsFrom b n (m - n)) s → s ≡ visits (gatesIn b) all s₀
-  unfolding bitsFrom
-  bits-done h w = going-end (rw (sub-eq-zero-of-le h) at w)
+  pub bits-done : {n m : ℕ} → m ≤ n → Going b l at all s₀ (gatesFrom b 1 n (m - n)) s → s ≡ visits (gatesIn b) all s₀
+  bits-done {n} {m} h w = going-end (rw (gates-done b 1 n m h) at w)

@@ -2,22 +2,21 @@
 --     division-way    a division: one name, then the dividend's and the divisor's gates
 --     other-way       any other gate: its fields, and then what `finish` says
 -- Assumes nothing.
-use mathlib.Core.Path.{_≡_, refl, sym, ap, _∙_}
-use mathlib.Core.Bool.{Bool, true, false}
-use mathlib.Core.List.{List, [], _∷_, _++_}
+use mathlib.Core.Path.{_≡_, refl}
+use mathlib.Core.Bool.{true, false}
+use mathlib.Core.List.{List, [], _++_}
 use Prim.Native.Nat.{ℕ, _≤_, _<_}
 use native.Mathlib.Omega.{arith}
 use lib.ListN.{length, getD}
-use Rattle.energy.specs.Circuit.{Gate, ConstFalse, Node, node}
+use Rattle.energy.specs.Circuit.{Gate, ConstFalse, node}
 use Rattle.energy.specs.Numbering.{reads}
 use Rattle.circuit.specs.declared.GateKind.{GateKind}
 use Rattle.circuit.specs.declared.GateKind.the-variants as kind
 use Rattle.circuit.specs.File.{field, kindAt}
 use Rattle.circuit.specs.Meaning.{listOf, gateOf, gateAt}
-use Rattle.numbering.specs.declared.Act.{Act}
 use Rattle.numbering.specs.declared.Act.the-variants.{Share}
 use Rattle.numbering.specs.State.{State}
-use Rattle.numbering.specs.Visit.{oneName, threeNames, take, operands, each, process, visitOf, processOf, visits}
+use Rattle.numbering.specs.Visit.{oneName, take, operands, each, process, visitOf, processOf, visits}
 use Rattle.numbering.specs.Fuel.{each-append}
 use Rattle.numbering.specs.Read.{arity, actOf, isDivision, finish, fieldsFrom, gatesIn, Laid}
 

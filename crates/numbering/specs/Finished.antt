@@ -3,7 +3,7 @@
 --     numbering      what they say is a `Numbering`
 --     rows-agree     the rows in the order of the names are those of demand 3
 -- Assumes nothing.
-use mathlib.Core.Path.{_≡_, refl, sym, ap, ap₂, _∙_, subst, subst⁻¹}
+use mathlib.Core.Path.{_≡_, refl, sym, ap, ap₂, _∙_, subst}
 use mathlib.Core.Logic.{_⊎_, inl, inr}
 use mathlib.Core.Bool.{Bool, true, false, cond}
 use mathlib.Core.List.{List, [], _∷_, _++_, map, append-assoc}
@@ -11,17 +11,16 @@ use Prim.Native.Nat.{ℕ, zero, suc, _+_, _*_, _-_, _≤_, _<_}
 use native.Mathlib.Omega.{arith}
 use native.Mathlib.Decide.{ℕ-discrete, decLt}
 use lib.Dec.{eqb}
-use lib.ListN.{length, getD, set, replicate, length-replicate, length-set}
+use lib.ListN.{length, getD, replicate, length-replicate, length-set}
 use lib.Seq.{getD-set-same, getD-set-other}
-use borrow.Author.Tests.{eqb-true, eqb-false, eq-eqb, ne-eqb}
-use Rattle.penalty.specs.declared.Kind.{Kind}
+use borrow.Author.Tests.{eqb-true, eq-eqb, ne-eqb}
 use Rattle.penalty.specs.Rule.{isAdder}
-use Rattle.energy.specs.Plain.{Row, more}
-use Rattle.energy.specs.Circuit.{Circuit, Bad, Constraint, Gate, Nodes, Node, fixed, free, op, carryOf, nodesOf, Before, AllBelow}
+use Rattle.energy.specs.Plain.{more}
+use Rattle.energy.specs.Circuit.{Circuit, Bad, Gate, Nodes, Node, fixed, free, op, carryOf, nodesOf, Before, AllBelow}
 use Rattle.energy.specs.Numbering.{AllIn, name, rowBy, gateRows, joins, reads, rows, Numbering}
 use Rattle.numbering.specs.State.{State, mk, slot, qubitOf, origin, role, namesOf, start}
 use Rattle.numbering.specs.Visit.{give, visitOf}
-use Rattle.numbering.specs.Numbered.{badGates, roots, Outcome, refused, numbered, decide, visitRoots, joinNames, joinsOf, withJoins, number, gateRow, joinRow, rowOf, rowsFrom, rowsOf, size, consIf, resultsFrom, baseOf, firstJoin, tail, namedBy, namedOf}
+use Rattle.numbering.specs.Numbered.{badGates, constraintGates, roots, Outcome, refused, numbered, decide, visitRoots, joinNames, joinsOf, nameJoins, andThen, number, gateRow, joinRow, rowOf, rowsFrom, rowsOf, size, consIf, resultsFrom, baseOf, firstJoin, tail, namedOf}
 use Rattle.numbering.specs.Laws.{AllHave, zeros, Origin, Placed, Taken, Inv, Keeps, Visited, later-refl, later-trans, have-later, placed-later, taken-later, full-trans, visit-visited}
 use Rattle.numbering.specs.Tables.{name-is, own-rows, all-reached, numbering-of}
 
@@ -100,6 +99,22 @@ module _ (gs : List Gate) (ordered : (g : ℕ) → Before (nodesOf gs) g (nodesO
           }
       go (no n) rest = let z : _≡_ {A = ℕ} 0 1 = cc (roots-had g rs s n) in absurd (omega arith)
 
+-- bad states and then constraints are all roots in their order
+roots-append : (gs : List Gate) (xs ys : List ℕ) (s : State) → visitRoots gs (xs ++ ys) s ≡ andThen (visitRoots gs ys) (visitRoots gs xs s)
+unfolding visitRoots
+roots-append gs [] ys s = refl
+roots-append gs (g ∷ xs) ys s = go (eqb (slot s g) 0) (roots-append gs xs ys (visitOf gs g s))
+  where
+    go : (b : Bool) → visitRoots gs (xs ++ ys) (visitOf gs g s) ≡ andThen (visitRoots gs ys) (visitRoots gs xs (visitOf gs g s))
+        → decide b (λ t. visitRoots gs (xs ++ ys) (visitOf gs g t)) (refused g) s
+        ≡ andThen (visitRoots gs ys) (decide b (λ t. visitRoots gs xs (visitOf gs g t)) (refused g) s)
+    go true rest = rest
+    go false rest = refl
+
+pub number-is : (c : Circuit) → number c ≡ andThen (nameJoins c) (visitRoots (c .gates) (roots c) (start c))
+unfolding number
+number-is c = ap (andThen (nameJoins c)) (sym (roots-append (c .gates) (badGates c) (constraintGates c) (start c)))
+
 -- ---- the joins
 
 pub record Joined (j m : ℕ) (s t : State) : Type 0 where
@@ -122,6 +137,12 @@ give-here j s a b =
 
 then : {s t : State} {q g r : ℕ} → Origin t q (origin s q) (role s q) → Origin s q g r → Origin t q g r
 then o p = record { from = o .from ∙ p .from; what = o .what ∙ p .what }
+
+-- the joins change no gate's entry
+pub joins-keep : (m j : ℕ) (s : State) → s .qubits ≡ joinNames j m s .qubits
+unfolding joinNames
+joins-keep zero j s = refl
+joins-keep (suc m) j s = joins-keep m (j + 1) (give j 4 s)
 
 -- one join step, and then m more
 join-one : {m j : ℕ} {s t : State} → s .next < length (s .origins) → s .next < length (s .roles) → Joined (j + 1) m (give j 4 s) t → Joined j (suc m) s t
@@ -190,12 +211,11 @@ abbrev cut : State → ℕ → State
 cut t n = mk (t .qubits) (t .origins) (t .roles) n
 
 -- before the joins: the tables, and what they became
-before-joins : (c : Circuit) (t : State) → number c ≡ numbered t
+pub before-joins : (c : Circuit) (t : State) → number c ≡ numbered t
     → (s : State) × (visitRoots (c .gates) (roots c) (start c) ≡ numbered s) × (joinNames 1 (joinsOf c) s ≡ t)
-unfolding number
-before-joins c t e = go (visitRoots (c .gates) (roots c) (start c)) refl e
+before-joins c t e = go (visitRoots (c .gates) (roots c) (start c)) refl (sym (number-is c) ∙ e)
   where
-    go : (o : Outcome) → visitRoots (c .gates) (roots c) (start c) ≡ o → withJoins (joinsOf c) o ≡ numbered t
+    go : (o : Outcome) → visitRoots (c .gates) (roots c) (start c) ≡ o → andThen (nameJoins c) o ≡ numbered t
         → (s : State) × (visitRoots (c .gates) (roots c) (start c) ≡ numbered s) × (joinNames 1 (joinsOf c) s ≡ t)
     go (refused g s) f e = let z : _≡_ {A = ℕ} 0 1 = cc in absurd (omega arith)
     go (numbered s) f e = (s, f, cc)
@@ -215,10 +235,10 @@ module _ (c : Circuit) (formed : Formed c) (s : State) (e : visitRoots (c .gates
   unfolding start
   start-unused q = record { from = nothing (namesOf c) q; what = nothing (namesOf c) q }
 
-  olong : length (s .origins) ≡ namesOf c
+  pub olong : length (s .origins) ≡ namesOf c
   olong = visited .later .origins ∙ start-long .0
 
-  rlong : length (s .roles) ≡ namesOf c
+  pub rlong : length (s .roles) ≡ namesOf c
   rlong = visited .later .roles ∙ start-long .1
 
   abbrev m : ℕ
@@ -227,7 +247,8 @@ module _ (c : Circuit) (formed : Formed c) (s : State) (e : visitRoots (c .gates
   abbrev t : State
   t = joinNames 1 m s
 
-  fits : s .next + m ≤ namesOf c
+  -- there is room for the joins' names
+  pub fits : s .next + m ≤ namesOf c
   fits = omega (arith, visited .inv .room, formed .some)
 
   joins-done : Joined 1 m s t
@@ -384,7 +405,7 @@ module _ (c : Circuit) (formed : Formed c) (t : State) (fin : Finished c t) wher
   bads-have : (1 ≤ slot t (getD (badGates c) 0 0)) × AllHave t (tail (badGates c))
   bads-have =
       have-head t (badGates c) (omega (arith, length-gates (c .bads), formed .some))
-      (have-append t (badGates c) (map (λ (k : Constraint). k .gate) (c .constraints)) (fin .reached) .0)
+      (have-append t (badGates c) (constraintGates c) (fin .reached) .0)
 
   -- What the finished tables say is a numbering, for every well-formed circuit that is not refused.
   pub numbering : Numbering (namedOf c t)
@@ -394,10 +415,10 @@ module _ (c : Circuit) (formed : Formed c) (t : State) (fin : Finished c t) wher
       (omega (arith, fin .last, length-tail (badGates c), length-gates (c .bads)))
 
   -- and the constraints' gates are reached
-  pub constraints-in : AllIn (map (λ (k : Constraint). k .gate) (c .constraints)) (namedOf c t .reached)
+  pub constraints-in : AllIn (constraintGates c) (namedOf c t .reached)
   constraints-in =
-      all-reached (c .gates) (formed .ordered) low low-inv (map (λ (k : Constraint). k .gate) (c .constraints))
-      (have-later to-low (map (λ (k : Constraint). k .gate) (c .constraints)) (have-append t (badGates c) (map (λ (k : Constraint). k .gate) (c .constraints)) (fin .reached) .1))
+      all-reached (c .gates) (formed .ordered) low low-inv (constraintGates c)
+      (have-later to-low (constraintGates c) (have-append t (badGates c) (constraintGates c) (fin .reached) .1))
 
   -- ---- the rows in the order of the names
 

@@ -3,7 +3,7 @@
 --     visit-fresh     of a gate with no qubit
 --     visit-had       of a gate that has one
 -- Assumes nothing.
-use mathlib.Core.Path.{_≡_, refl, ap, _∙_}
+use mathlib.Core.Path.{_≡_, refl, _∙_}
 use mathlib.Core.Bool.{Bool, true, false}
 use mathlib.Core.List.{List, [], _∷_, _++_}
 use Prim.Native.Nat.{ℕ, zero, suc, _<_}
@@ -11,10 +11,10 @@ use native.Mathlib.Omega.{arith}
 use lib.Dec.{eqb}
 use lib.ListN.{getD}
 use borrow.Author.Tests.{eq-eqb, ne-eqb}
-use Rattle.energy.specs.Circuit.{Gate, ConstFalse, ConstTrue, InputBit, Not, And, Nand, Or, Matriarch1, CarryHalfAdder, CarryFullAdder, ResultHalfAdder, ResultFullAdder, Quotient, Remainder, Nodes, Node, fixed, free, op, carryOf, node, nodesOf, Before, AllBelow, lists}
+use Rattle.energy.specs.Circuit.{Gate, ConstFalse, ConstTrue, InputBit, Not, And, Nand, Or, Matriarch1, CarryHalfAdder, CarryFullAdder, ResultHalfAdder, ResultFullAdder, Quotient, Remainder, Nodes, Node, fixed, free, op, carryOf, node, nodesOf, Before, AllBelow}
 use Rattle.energy.specs.Numbering.{reads}
 use Rattle.numbering.specs.State.{State, slot}
-use Rattle.numbering.specs.Visit.{choose, take, operands, each, process, step, visit, visitOf, processOf}
+use Rattle.numbering.specs.Visit.{choose, operands, each, process, step, visit, visitOf, processOf}
 
 pub each-append : (v : ℕ → State → State) (xs ys : List ℕ) (s : State) → each v (xs ++ ys) s ≡ each v ys (each v xs s)
 unfolding each
@@ -23,20 +23,20 @@ each-append v (x ∷ xs) ys s = each-append v xs ys (v x s)
 
 -- what a gate visits comes earlier
 pub operands-below : (N : Nodes) (g : ℕ) (gate : Gate) → Before N g (node gate) → AllBelow g (operands gate)
-operands-below N g ConstFalse b = tt
-operands-below N g ConstTrue b = tt
-operands-below N g InputBit b = tt
-operands-below N g (Not x) b = (b .0, tt)
-operands-below N g (And x y) b = (b .0, (b .1, tt))
-operands-below N g (Nand x y) b = (b .0, (b .1, tt))
-operands-below N g (Or x y) b = (b .0, (b .1, tt))
-operands-below N g (Matriarch1 x y) b = (b .0, (b .1, tt))
-operands-below N g (CarryHalfAdder x) b = (b .0, tt)
-operands-below N g (CarryFullAdder x) b = (b .0, tt)
-operands-below N g (ResultHalfAdder x y) b = (b .0, (b .1, tt))
-operands-below N g (ResultFullAdder x y z) b = (b .0, (b .1, (b .2, tt)))
-operands-below N g (Quotient i n d) b = tt
-operands-below N g (Remainder i n d) b = tt
+operands-below N g ConstFalse b = search (tt, b)
+operands-below N g ConstTrue b = search (tt, b)
+operands-below N g InputBit b = search (tt, b)
+operands-below N g (Not x) b = search (tt, b)
+operands-below N g (And x y) b = search (tt, b)
+operands-below N g (Nand x y) b = search (tt, b)
+operands-below N g (Or x y) b = search (tt, b)
+operands-below N g (Matriarch1 x y) b = search (tt, b)
+operands-below N g (CarryHalfAdder x) b = search (tt, b)
+operands-below N g (CarryFullAdder x) b = search (tt, b)
+operands-below N g (ResultHalfAdder x y) b = search (tt, b)
+operands-below N g (ResultFullAdder x y z) b = search (tt, b)
+operands-below N g (Quotient i n d) b = search (tt, b)
+operands-below N g (Remainder i n d) b = search (tt, b)
 
 pub reads-below : (N : Nodes) (g : ℕ) (n : Node) → Before N g n → AllBelow g (reads n)
 reads-below N g (fixed b) h = tt

@@ -1,22 +1,21 @@
 -- The laws of the visit: what the tables satisfy at any time (`Inv`), what a visit leaves as it was (`Later`), and what it reaches (`Full`).
 -- Assumes nothing.
-use mathlib.Core.Path.{_≡_, refl, sym, ap, _∙_, subst, subst⁻¹}
+use mathlib.Core.Path.{_≡_, refl, sym, ap, _∙_}
 use mathlib.Core.Logic.{_⊎_, inl, inr}
 use mathlib.Core.Bool.{Bool, true, false, cond}
-use mathlib.Core.List.{List, [], _∷_, _++_}
+use mathlib.Core.List.{List, [], _∷_}
 use Prim.Native.Nat.{ℕ, zero, suc, _+_, _*_, _-_, _≤_, _<_}
 use native.Mathlib.Omega.{arith}
 use native.Mathlib.Decide.{ℕ-discrete, decLt}
 use native.Mathlib.Numerals.{add-one}
 use lib.ListN.{length, getD, set, length-set}
 use lib.Seq.{getD-set-same, getD-set-other}
-use Rattle.penalty.specs.declared.Kind.{Kind}
 use Rattle.penalty.specs.Rule.{isAdder}
 use Rattle.energy.specs.Plain.{more}
-use Rattle.energy.specs.Circuit.{Gate, ConstFalse, ConstTrue, InputBit, Not, And, Nand, Or, Matriarch1, CarryHalfAdder, CarryFullAdder, ResultHalfAdder, ResultFullAdder, Quotient, Remainder, Nodes, Node, fixed, free, op, carryOf, node, nodesOf, Before, AllBelow, IsAdder}
+use Rattle.energy.specs.Circuit.{Gate, ConstFalse, ConstTrue, InputBit, Not, And, Nand, Or, Matriarch1, CarryHalfAdder, CarryFullAdder, ResultHalfAdder, ResultFullAdder, Quotient, Remainder, Node, fixed, free, op, carryOf, node, nodesOf, Before, AllBelow, IsAdder}
 use Rattle.energy.specs.Numbering.{reads}
 use Rattle.numbering.specs.State.{State, mk, slot, origin, role}
-use Rattle.numbering.specs.Visit.{mark, give, choose, oneName, threeNames, take, operands, each, process, visitOf, processOf, visits}
+use Rattle.numbering.specs.Visit.{mark, choose, oneName, threeNames, take, operands, each, process, visitOf, visits}
 use Rattle.numbering.specs.Numbered.{size}
 use Rattle.numbering.specs.Fuel.{operands-below, reads-below, visit-fresh, visit-had}
 
@@ -61,6 +60,7 @@ pub record Taken (gs : List Gate) (s : State) (q : ℕ) : Type 0 where
   pub most : role s q ≤ size (nodesOf gs (origin s q))
   pub entry : slot s (origin s q) ≡ q + role s q
 
+-- What the tables keep to at any time.
 pub record Inv (gs : List Gate) (s : State) : Type 0 where
   pub gates : length (s .qubits) ≡ length gs
   pub origins : 3 * length gs + 2 ≤ length (s .origins)
@@ -221,20 +221,20 @@ Ops s (op k a b d) = (1 ≤ slot s a) × (1 ≤ slot s b) × (1 ≤ slot s d)
 Ops s (carryOf a) = 1 ≤ slot s a
 
 pub ops-have : (s : State) (gate : Gate) → AllHave s (operands gate) → Ops s (node gate)
-ops-have s ConstFalse a = tt
-ops-have s ConstTrue a = tt
-ops-have s InputBit a = tt
-ops-have s (Not x) a = (a .0, a .0, a .0)
-ops-have s (And x y) a = (a .0, a .1 .0, a .0)
-ops-have s (Nand x y) a = (a .0, a .1 .0, a .0)
-ops-have s (Or x y) a = (a .0, a .1 .0, a .0)
-ops-have s (Matriarch1 x y) a = (a .0, a .1 .0, a .0)
-ops-have s (CarryHalfAdder x) a = a .0
-ops-have s (CarryFullAdder x) a = a .0
-ops-have s (ResultHalfAdder x y) a = (a .0, a .1 .0, a .0)
-ops-have s (ResultFullAdder x y z) a = (a .0, a .1 .0, a .1 .1 .0)
-ops-have s (Quotient i n d) a = tt
-ops-have s (Remainder i n d) a = tt
+ops-have s ConstFalse a = search (tt, a)
+ops-have s ConstTrue a = search (tt, a)
+ops-have s InputBit a = search (tt, a)
+ops-have s (Not x) a = search (tt, a)
+ops-have s (And x y) a = search (tt, a)
+ops-have s (Nand x y) a = search (tt, a)
+ops-have s (Or x y) a = search (tt, a)
+ops-have s (Matriarch1 x y) a = search (tt, a)
+ops-have s (CarryHalfAdder x) a = search (tt, a)
+ops-have s (CarryFullAdder x) a = search (tt, a)
+ops-have s (ResultHalfAdder x y) a = search (tt, a)
+ops-have s (ResultFullAdder x y z) a = search (tt, a)
+ops-have s (Quotient i n d) a = search (tt, a)
+ops-have s (Remainder i n d) a = search (tt, a)
 
 -- an adder that has a qubit took three names
 pub adder-took : (s : State) (a : ℕ) (d : Node) → IsAdder d → Placed s a d → Took s a 3

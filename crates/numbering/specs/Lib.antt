@@ -7,4 +7,6 @@ pub mod Laws
 pub mod Rows
 pub mod Tables
 pub mod Finished
+pub mod Reached
 pub mod Read
+pub mod Bytes

@@ -9,7 +9,7 @@ use Rattle.penalty.specs.declared.Kind.the-variants as row
 use Rattle.energy.specs.Plain.{Row, more}
 use Rattle.energy.specs.Circuit.{Circuit, Bad, Constraint, Gate, Node, fixed, free, op, carryOf, nodesOf}
 use Rattle.energy.specs.Numbering.{Named}
-use Rattle.numbering.specs.State.{State, mk, slot, qubitOf, origin, role, start}
+use Rattle.numbering.specs.State.{State, slot, qubitOf, origin, role, start}
 use Rattle.numbering.specs.Visit.{give, visitOf}
 
 -- ---- roots
@@ -17,9 +17,12 @@ use Rattle.numbering.specs.Visit.{give, visitOf}
 abbrev pub badGates : Circuit → List ℕ
 badGates c = map (λ (b : Bad). b .gate) (c .bads)
 
--- "Bad states are processed in order, then constraints."
+abbrev pub constraintGates : Circuit → List ℕ
+constraintGates c = map (λ (k : Constraint). k .gate) (c .constraints)
+
+-- all of them, in the order of their turns
 abbrev pub roots : Circuit → List ℕ
-roots c = badGates c ++ map (λ (k : Constraint). k .gate) (c .constraints)
+roots c = badGates c ++ constraintGates c
 
 -- refused at a gate, with the tables then; or numbered
 pub data Outcome : Type 0 where
@@ -46,13 +49,18 @@ joinNames j (suc m) s = joinNames (j + 1) m (give j 4 s)
 abbrev pub joinsOf : Circuit → ℕ
 joinsOf c = length (c .bads) - 1
 
-abbrev pub withJoins : ℕ → Outcome → Outcome
-withJoins m (refused g s) = refused g s
-withJoins m (numbered s) = numbered (joinNames 1 m s)
+abbrev pub nameJoins : Circuit → State → Outcome
+nameJoins c s = numbered (joinNames 1 (joinsOf c) s)
 
--- the numbering of a circuit
+-- ---- the whole
+
+abbrev pub andThen : (State → Outcome) → Outcome → Outcome
+andThen f (refused g s) = refused g s
+andThen f (numbered s) = f s
+
+-- "Bad states are processed in order, then constraints." The joins take their names "after those the constraints made".
 unfoldable pub number : Circuit → Outcome
-number c = withJoins (joinsOf c) (visitRoots (c .gates) (roots c) (start c))
+number c = andThen (nameJoins c) (andThen (visitRoots (c .gates) (constraintGates c)) (visitRoots (c .gates) (badGates c) (start c)))
 
 -- ---- the rows, in the order of the names
 

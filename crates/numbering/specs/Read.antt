@@ -1,19 +1,24 @@
 -- What the code reads of the bytes, and what its contracts ask. Assumes nothing: these are definitions.
 use mathlib.Core.Path.{_≡_}
 use mathlib.Core.Bool.{Bool, true, false}
-use mathlib.Core.List.{List, [], _∷_}
+use mathlib.Core.List.{List, [], _∷_, map}
 use Prim.Native.Nat.{ℕ, zero, suc, _+_, _*_, _-_, _≤_, _<_}
 use lib.ListN.{length, getD}
 use Rattle.energy.specs.Circuit.{Gate, ConstFalse, nodesOf, Before}
 use Rattle.circuit.specs.declared.GateKind.{GateKind}
 use Rattle.circuit.specs.declared.GateKind.the-variants.{ConstFalse as isFalse, ConstTrue, InputBit, Not, And, Nand, Or, Matriarch1, CarryHalfAdder, ResultHalfAdder, CarryFullAdder, ResultFullAdder, Quotient, Remainder}
 use Rattle.circuit.specs.File.{field, kindAt}
+use Rattle.circuit.specs.Count.{range}
 use Rattle.circuit.specs.Meaning.{listOf, gateAt, circuitOf}
 use Rattle.numbering.specs.declared.Act.{Act}
 use Rattle.numbering.specs.declared.Act.the-variants.{Low, High, One, Three, Share, Done}
 use Rattle.numbering.specs.State.{State, mk, slot}
 use Rattle.numbering.specs.Visit.{mark, oneName, threeNames}
+use Rattle.numbering.specs.Numbered.{roots, Outcome, refused, numbered}
 use Rattle.numbering.specs.Laws.{Inv}
+use Rattle.numbering.specs.Finished.{Formed}
+use Rattle.numbering.specs.declared.Ended.{Ended}
+use Rattle.numbering.specs.declared.Ended.the-variants.{Refused, All}
 
 -- ---- what a gate of each kind does
 
@@ -74,10 +79,9 @@ unfoldable pub fieldsFrom : List ℕ → ℕ → ℕ → ℕ → List ℕ
 fieldsFrom b g i zero = []
 fieldsFrom b g i (suc n) = field b g i ∷ fieldsFrom b g (i + 1) n
 
--- the gates that the m list bits from record n on name
-unfoldable pub bitsFrom : List ℕ → ℕ → ℕ → List ℕ
-bitsFrom b n zero = []
-bitsFrom b n (suc m) = field b n 1 ∷ bitsFrom b (n + 1) m
+-- the gates that the m records from n on name in their field i
+unfoldable pub gatesFrom : List ℕ → ℕ → ℕ → ℕ → List ℕ
+gatesFrom b i n m = map (λ (r : ℕ). field b r i) (range n m)
 
 -- ---- what the contracts ask
 
@@ -89,7 +93,7 @@ pub record ListAt (b starts : List ℕ) (k : ℕ) : Type 0 where
   pub small : k < 64
   pub rises : getD starts k 0 ≤ getD starts (k + 1) 0
   pub whole : 16 * getD starts (k + 1) 0 ≤ length b
-  pub bits : listOf b k ≡ bitsFrom b (getD starts k 0) (getD starts (k + 1) 0 - getD starts k 0)
+  pub bits : listOf b k ≡ gatesFrom b 1 (getD starts k 0) (getD starts (k + 1) 0 - getD starts k 0)
 
 -- The gates come first, and the lists of a division lie where `starts` says.
 pub record Laid (b starts : List ℕ) : Type 0 where
@@ -128,3 +132,24 @@ pub record CanFinish (act : Act) (b : List ℕ) (g : ℕ) (s : State) : Type 0 w
 pub record Answer (g q : ℕ) (s t : State) : Type 0 where
   pub tables : s ≡ t
   pub qubit : q + 1 ≡ slot s g
+
+-- ---- the roots
+
+-- how the code's answer tells an outcome, with the tables
+abbrev pub outcomeOf : Ended → List ℕ → List ℕ → List ℕ → Outcome
+outcomeOf (Refused g n) q o r = refused (g .0) (mk q o r (n .0))
+outcomeOf (All n) q o r = numbered (mk q o r (n .0))
+
+-- The bad states are the records from `from` on, `bads` of them, and the constraints the `others` after them; both name a gate in their first field.
+pub record RootsAt (b : List ℕ) (from bads others : ℕ) : Type 0 where
+  pub whole : 16 * (from + bads + others) ≤ length b
+  pub roots : roots (circuitOf b) ≡ gatesFrom b 0 from (bads + others)
+  pub counted : length (circuitOf b .bads) ≡ bads
+  pub few : bads ≤ 4000
+
+-- the bytes are ready to be numbered: the circuit is well formed, and lies in the bytes as the code reads it
+pub record Prepared (b starts : List ℕ) (from bads others : ℕ) : Type 0 where
+  pub laid : Laid b starts
+  pub formed : Formed (circuitOf b)
+  pub small : length (gatesIn b) ≤ 4000
+  pub rootsAt : RootsAt b from bads others

@@ -2,11 +2,11 @@
 -- Assumes nothing.
 use mathlib.Core.Path.{_≡_, refl, sym, _∙_, ap, subst⁻¹}
 use mathlib.Core.Logic.{_⊎_, inl, inr}
-use mathlib.Core.List.{List, [], _∷_, _++_, map, append-assoc}
-use Prim.Native.Nat.{ℕ, zero, suc, _+_, _≤_, _<_}
+use mathlib.Core.List.{List, [], _∷_, _++_, append-assoc}
+use Prim.Native.Nat.{ℕ, suc, _+_, _≤_, _<_}
 use native.Mathlib.Omega.{arith}
 use lib.ListN.{length}
-use Rattle.energy.specs.Plain.{Row, more, Sorted, Free, sorted-le}
+use Rattle.energy.specs.Plain.{Row, more, Sorted, Free}
 use Rattle.energy.specs.Circuit.{Nodes, AllBelow}
 use Rattle.energy.specs.Numbering.{In, rowBy, gateRows, joins}
 

@@ -6,9 +6,9 @@ use Prim.Native.Nat.{ℕ}
 use lib.ListN.{replicate}
 use Rattle.penalty.specs.declared.Kind.the-variants as row
 use Rattle.energy.specs.Plain.{Row}
-use Rattle.energy.specs.Circuit.{Circuit, Bad, Gate, ConstFalse, ConstTrue, InputBit, And, CarryHalfAdder, ResultHalfAdder, Quotient, Not}
+use Rattle.energy.specs.Circuit.{Circuit, Bad, Gate, ConstTrue, InputBit, And, CarryHalfAdder, ResultHalfAdder, Quotient, Not}
 use Rattle.energy.specs.Numbering.{rows, name}
-use Rattle.numbering.specs.State.{State, mk, start}
+use Rattle.numbering.specs.State.{mk, start}
 use Rattle.numbering.specs.Visit.{oneName, threeNames, take, each, process, step, visit, visitOf}
 use Rattle.numbering.specs.Numbered.{Outcome, refused, numbered, visitRoots, joinNames, number, rowsFrom, rowsOf, resultsFrom, sharersFrom, namedOf}
 

@@ -1,7 +1,7 @@
 -- The tables that the numbering fills, as one value. Assumes nothing: these are definitions.
 use mathlib.Core.List.{List}
 use Prim.Native.Nat.{ℕ, _+_, _*_, _-_}
-use lib.ListN.{length, getD, set, replicate}
+use lib.ListN.{length, getD, replicate}
 use Rattle.energy.specs.Circuit.{Circuit}
 
 -- `qubits`, by gate: 0 where it has no qubit, else the qubit's name + 1.

@@ -15,12 +15,12 @@ use borrow.Author.Tests.{eqb-true, eq-eqb, ltb-true, lt-ltb}
 use Rattle.penalty.specs.declared.Kind.{Kind}
 use Rattle.penalty.specs.Rule.{isAdder}
 use Rattle.energy.specs.Plain.{Row, more, Sorted, Free, free-below}
-use Rattle.energy.specs.Circuit.{Gate, ConstFalse, Nodes, Node, fixed, free, op, carryOf, nodesOf, Before, AllBelow, IsAdder, IsFree}
-use Rattle.energy.specs.Numbering.{In, in-left, AllIn, Operands, name, nameBy, rowBy, gateRows, joins, reads, Named, rows, Numbering}
+use Rattle.energy.specs.Circuit.{Gate, Nodes, Node, fixed, free, op, carryOf, nodesOf, Before, AllBelow, IsAdder, IsFree}
+use Rattle.energy.specs.Numbering.{In, in-left, AllIn, Operands, name, nameBy, rowBy, gateRows, joins, reads, Numbering}
 use Rattle.numbering.specs.State.{State, slot, origin, role}
 use Rattle.numbering.specs.Numbered.{size, consIf, resultsFrom, sharersFrom, baseOf, namedBy}
 use Rattle.numbering.specs.Laws.{AllHave, Took, Placed, Taken, Inv, adder-took}
-use Rattle.numbering.specs.Rows.{sorted-append, sorted-down, free-append, free-left, free-right, free-gate, free-gates, gateRows-append, in-right, in-either, joins-sorted, joins-taken}
+use Rattle.numbering.specs.Rows.{sorted-append, free-append, free-left, free-right, free-gate, free-gates, gateRows-append, in-right, in-either, joins-sorted, joins-taken}
 
 -- ---- the lists of reached gates
 

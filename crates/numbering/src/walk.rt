@@ -9,7 +9,7 @@ use circuit::records::field_at;
 use units::Gate;
 use units::Qubit;
 ghost use mathlib.Core.Path.{_≡_};
-ghost use Prim.Native.Nat.{ℕ, _+_, _≤_, _<_};
+ghost use Prim.Native.Nat.{_+_, _≤_, _<_};
 ghost use lib.ListN.{length};
 ghost use Rattle.energy.specs.Circuit.{AllBelow};
 ghost use Rattle.circuit.specs.Meaning.{listOf};

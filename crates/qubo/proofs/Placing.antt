@@ -7,7 +7,7 @@ use Prim.Native.Nat.{ℕ, zero, suc, _+_, _-_, _*_, _≤_, _<_}
 use native.Mathlib.Numerals.{add-one}
 use native.Mathlib.Omega.{arith}
 use lib.Dec.{eqb}
-use lib.IntN.{ℤ, pos, negsuc, natAbs, _+ℤ_}
+use lib.IntN.{ℤ, pos, natAbs, _+ℤ_}
 use lib.ListN.{length, take, drop, set, getD, drop-of-length-le, take-append-drop}
 use lib.Seq.{take-append-add, drop-append-add, drop-drop, length-take-le}
 use borrow.Author.Tests.{eq-eqb, ne-eqb}
@@ -15,13 +15,14 @@ use Rattle.penalty.specs.declared.Penalty.{Penalty}
 use Rattle.penalty.specs.Rows.{Slot, Place, singles, twos}
 use Rattle.energy.specs.Model.{Entry, Model, keyOf, isZero, joinLinear, addLinear, halves, addLinears, sizes}
 use Rattle.energy.specs.Mass.{sizes-gain, abs-halves}
-use Rattle.pairs.specs.Store.{zip, over}
+use Rattle.pairs.specs.Store.{zip, over, canonical}
 use Rattle.pairs.specs.Over.{over-more}
 use Rattle.pairs.proofs.Tables.{length-zip}
-use Rattle.qubo.specs.Tables.{Tables, tables, modelOf, withLinear, hold, gained, marked, firsts, seconds}
-use Rattle.qubo.specs.Logged.{appendPair, logPair, logPairs, logged}
-use Rattle.qubo.specs.Room.{filledBy, filled, Longer}
-use Rattle.qubo.proofs.Adding.{zero-test, other-test, add-linear-is, gained-length, gained-sizes}
+use Rattle.store.specs.Tables.{Tables, tables, modelOf, withLinear, hold, gained, marked}
+use Rattle.qubo.specs.Wiring.{firsts, seconds}
+use Rattle.qubo.specs.Logged.{appendPair, logPair, logPairs, logged, settled}
+use Rattle.qubo.specs.Room.{filledBy, filled, filled-halves, Longer}
+use Rattle.store.proofs.Adding.{zero-test, other-test, add-linear-is, gained-length, gained-sizes}
 
 -- ---- one pair, by its tests
 
@@ -143,12 +144,6 @@ filled-step : (cs : List ℤ) (j : ℕ) → j < length cs → filled (drop j cs)
 filled-step [] j h = absurd (omega arith)
 filled-step (c ∷ cs) zero h = refl
 filled-step (c ∷ cs) (suc j) h = filled-step cs j (omega arith)
-
--- a number of halves is 0 where the whole number is
-filled-halves : (c : ℤ) → filledBy (halves c) ≡ filledBy c
-filled-halves (pos zero) = refl
-filled-halves (pos (suc n)) = ap (λ (b : Bool). cond b 0 1) (ne-eqb (suc n + suc n) 0 (λ e. omega arith) ∙ sym (ne-eqb (suc n) 0 (λ e. omega arith)))
-filled-halves (negsuc n) = refl
 
 pub record Linears (qs : List ℕ) (cs : List ℤ) (l₀ : List ℤ) (h₀ : List ℕ) (l : List ℤ) (h : List ℕ) (j : ℕ) : Type 0 where
   pub linear : length l ≡ length l₀
@@ -310,3 +305,9 @@ pub all-placed : (o o′ : ℤ) (l l₁ : List ℤ) (h h₁ r f ks : List ℕ) (
 unfolding logged
 all-placed o o′ l l₁ h h₁ r f ks ws n at p e s =
     ap (logPairs at twos (p .pairs)) (s (modelOf (tables o′ l h r f ks ws n)) ∙ ap (λ (z : ℤ). addLinears at singles (p .linear) (modelOf (tables z l h r f ks ws n))) e)
+
+-- ---- settling
+pub all-settled : (o o′ : ℤ) (l : List ℤ) (h r f ks ks′ : List ℕ) (ws ws′ : List ℤ) (n c : ℕ) → o′ ≡ o → c ≡ length (canonical (take n (zip ks ws)))
+    → zip ks′ ws′ ≡ over (canonical (take n (zip ks ws))) n (zip ks ws)
+    → tables o′ l h r f ks′ ws′ c ≡ hold (settled (modelOf (tables o l h r f ks ws n))) (tables o l h r f ks ws n)
+all-settled o o′ l h r f ks ks′ ws ws′ n c z e t i = record { offset = z i; linear = l; hasLinear = h; hasRow = r; fixed = f; entries = t i; count = e i }

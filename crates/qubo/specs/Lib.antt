@@ -1,5 +1,6 @@
--- The coefficient store: what stands in its tables, and the laws of placing.
-pub mod Tables
+-- Placing: the log, what it asks of the tables, and how far they grow.
+pub mod Wiring
 pub mod Logged
 pub mod Room
-pub mod Fixing
+pub mod Growth
+pub mod Samples

@@ -1,22 +1,23 @@
 -- What placing asks of the tables, and how far the log grows: a gate's penalty has at most 10 pairs and an Or 3, which is 01's bound 10G+3B on the pair tables.
 -- Assumes nothing.
-use mathlib.Core.Bool.{Bool, true, false, cond, _&&_}
-use mathlib.Core.List.{List, [], _∷_, _++_}
-use mathlib.Core.Path.{_≡_}
-use Prim.Native.Nat.{ℕ, _+_, _^_, _≤_, _<_}
+use mathlib.Core.Bool.{Bool, cond}
+use mathlib.Core.List.{List, [], _∷_}
+use mathlib.Core.Path.{_≡_, refl, sym, ap, _∙_}
+use Prim.Native.Nat.{ℕ, zero, suc, _+_, _^_, _≤_, _<_}
 use native.Mathlib.Omega.{arith}
-use lib.Dec.{T, eqb, leb, leb→le}
-use lib.IntN.{ℤ, pos, natAbs}
-use lib.ListN.{length, drop, getD, length-append}
+use lib.Dec.{T, leb, leb→le}
+use lib.IntN.{ℤ, pos, negsuc, natAbs}
+use lib.ListN.{length, take, drop, getD}
 use Rattle.penalty.specs.declared.Kind.{Kind}
 use Rattle.penalty.specs.declared.Kind.the-variants.{Or}
 use Rattle.penalty.specs.declared.Penalty.{Penalty}
-use Rattle.penalty.specs.Rows.{Slot, Place, twos, rows, rowOf}
+use Rattle.penalty.specs.Rows.{Slot, rows, rowOf}
 use Rattle.penalty.specs.Every.{everyKind, kind-at}
-use Rattle.energy.specs.Model.{Entry, isZero, sizes, mass}
+use borrow.Author.Tests.{ne-eqb}
+use Rattle.energy.specs.Model.{Entry, isZero, halves, sizes}
 use Rattle.energy.specs.Mass.{Few}
 use Rattle.pairs.specs.Store.{load, zip}
-use Rattle.qubo.specs.declared.Totals.{Totals}
+use Rattle.store.specs.declared.Totals.{Totals}
 
 -- how many of these coefficients are not 0
 abbrev pub filledBy : ℤ → ℕ
@@ -25,6 +26,12 @@ filledBy c = cond (isZero c) 0 1
 abbrev pub filled : List ℤ → ℕ
 filled [] = 0
 filled (c ∷ cs) = filledBy c + filled cs
+
+-- a number of halves is 0 where the whole number is
+pub filled-halves : (c : ℤ) → filledBy (halves c) ≡ filledBy c
+filled-halves (pos zero) = refl
+filled-halves (pos (suc n)) = ap (λ (b : Bool). cond b 0 1) (ne-eqb (suc n + suc n) 0 (λ e. omega arith) ∙ sym (ne-eqb (suc n) 0 (λ e. omega arith)))
+filled-halves (negsuc n) = refl
 
 -- the log has grown by at most k, and what stands after it stays
 pub record Longer (n r k : ℕ) (T T′ : List Entry) : Type 0 where
@@ -68,6 +75,13 @@ pub record Placing (l : List ℤ) (h r ks : List ℕ) (ws : List ℤ) (t : Total
   pub room : t .count + filled (p .pairs) ≤ length ks
   pub offset : natAbs (t .offset) ≤ 2 ^ 40
   pub small : sizes l ≤ 2 ^ 40
+
+pub record Settling (ks : List ℕ) (ws : List ℤ) (sk : List ℕ) (sw : List ℤ) (t : Totals) : Type 0 where
+  pub even : length ws ≡ length ks
+  pub scratch-keys : length sk ≡ length ks
+  pub scratch-weights : length sw ≡ length ks
+  pub used : t .count ≤ length ks
+  pub small : load (take (t .count) (zip ks ws)) ≤ 2 ^ 40
 
 -- ---- how far the log grows: one computed test of the table's rows
 

@@ -1,20 +1,19 @@
 // Placing a penalty at its qubits: its linear coefficients join the linear entries, and its pairs go to the end of the log.
-use crate::Totals;
 use crate::Wires;
-use crate::linear::add_linear;
-use crate::linear::join_linear;
 use pairs::log::append;
 use penalty::Penalty;
-ghost use mathlib.Core.Bool.{cond};
+use store::Totals;
+use store::linear::add_linear;
+use store::linear::join_linear;
 ghost use mathlib.Core.List.{List};
 ghost use mathlib.Core.Path.{_≡_};
 ghost use Prim.Native.Nat.{ℕ, _+_, _≤_};
 ghost use lib.IntN.{ℤ};
-ghost use lib.ListN.{drop, length};
 ghost use Rattle.penalty.specs.Rows.{singles, twos};
 ghost use Rattle.energy.specs.Model.{Model, keyOf, addLinears, sizes};
 ghost use Rattle.pairs.specs.Store.{zip};
-ghost use Rattle.qubo.specs.Tables.{tables, modelOf, withLinear, hold, slotsOf, firsts, seconds};
+ghost use Rattle.store.specs.Tables.{tables, modelOf, withLinear, hold};
+ghost use Rattle.qubo.specs.Wiring.{slotsOf, firsts, seconds};
 ghost use Rattle.qubo.specs.Logged.{logPair, logPairs, logged};
 ghost use Rattle.qubo.specs.Room.{Pairing, Singles, Twos, Placing, Longer, filledBy, filled};
 

@@ -1,3 +1,5 @@
 pub mod Made
-pub mod Demand
-pub mod Few
+pub mod Built
+pub mod Parts
+pub mod Proved
+pub mod Samples

@@ -1,2 +1,78 @@
 // The build: from the bytes of a circuit to the finished model.
+use circuit::Checked;
+use circuit::Refusal;
+use circuit::check::check;
+use least::least_of;
+use least::lesser;
+use units::Form;
+use whole::build_accepted;
+ghost use mathlib.Core.Path.{_≡_};
+ghost use Rattle.qubot.specs.Built.{lent, built};
+
 pub mod clear;
+pub mod least;
+pub mod parts;
+pub mod whole;
+
+// What a build says of the finished model: its form, how many names there are, how many pairs, the offset in halves, the variable count, and how many bad states and inputs the circuit has.
+pub struct Finished {
+    pub form: Form,
+    pub names: usize,
+    pub pairs: usize,
+    pub offset: i64,
+    pub variables: usize,
+    pub bads: usize,
+    pub inputs: usize,
+}
+
+// The answer of a build.
+pub enum Built {
+    Done(Finished),
+    Refused(Refusal),
+}
+
+// The build of any bytes, in the form that is asked for, on any tables: no contents of a table are trusted.
+pub fn build(
+    circuit: &[u8],
+    form: Form,
+    qubits: &mut [u16],
+    origins: &mut [u16],
+    roles: &mut [u8],
+    linear: &mut [i64],
+    has_linear: &mut [u8],
+    has_row: &mut [u8],
+    fixed: &mut [u8],
+    keys: &mut [u32],
+    weights: &mut [i64],
+) -> Built
+    ensures { λ r. ⌜ (lent (now (qubits .exit)) (now (origins .exit)) (now (roles .exit)) (now (linear .exit)) (now («has_linear» .exit)) (now («has_row» .exit)) (now (fixed .exit)) (now (keys .exit)) (now (weights .exit)), r) ≡ built (now (circuit .entry)) form (lent (now (qubits .entry)) (now (origins .entry)) (now (roles .entry)) (now (linear .entry)) (now («has_linear» .entry)) (now («has_row» .entry)) (now (fixed .entry)) (now (keys .entry)) (now (weights .entry))) ⌝ }
+{
+    let gates = qubits.len();
+    let names = least_of(
+        origins.len(),
+        roles.len(),
+        linear.len(),
+        has_linear.len(),
+        has_row.len(),
+        fixed.len(),
+    );
+    let pairs = lesser(keys.len(), weights.len());
+    let checked = check(circuit, gates, names, pairs);
+    match checked {
+        Checked::Refused(r) => Built::Refused(r),
+        Checked::Accepted(k) => build_accepted(
+            circuit,
+            form,
+            k,
+            qubits,
+            origins,
+            roles,
+            linear,
+            has_linear,
+            has_row,
+            fixed,
+            keys,
+            weights,
+        ),
+    }
+}

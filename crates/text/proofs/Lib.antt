@@ -2,3 +2,6 @@
 pub mod Words
 pub mod Left
 pub mod Tables
+pub mod Parts
+pub mod Whole
+pub mod Short

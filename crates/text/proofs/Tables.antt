@@ -1,7 +1,7 @@
 -- The lines of the entries, one after another, as the loops over the tables meet them.
 -- Assumes nothing.
 use mathlib.Core.Path.{_≡_, refl, sym, ap, _∙_, subst}
-use mathlib.Core.Bool.{Bool, true, false, cond}
+use mathlib.Core.Bool.{cond}
 use mathlib.Core.List.{List, [], _∷_, _++_, zip, zipWith}
 use Prim.Native.Nat.{ℕ, zero, suc, _+_, _≤_, _<_, zero-le, suc-le-suc}
 use native.Mathlib.Nat.{not-suc-le-zero, le-of-suc-le-suc}
@@ -9,7 +9,7 @@ use native.Mathlib.Numerals.{add-one}
 use native.Mathlib.Omega.{arith}
 use lib.Dec.{eqb}
 use lib.IntN.{ℤ, pos}
-use lib.ListN.{length, getD, take, drop, length-take, drop-of-length-le}
+use lib.ListN.{length, getD, take, drop, drop-of-length-le}
 use lib.Seq.{drop-cons, getD-take, length-take-le}
 use borrow.Author.Tests.{eq-eqb, ne-eqb}
 use Rattle.energy.specs.Model.{Entry}
@@ -62,14 +62,14 @@ module _ (hs : List ℕ) (cs : List ℤ) (n : ℕ) where
 
 -- ---- pairs
 
-zip-long : (ks : List ℕ) (ws : List ℤ) (n : ℕ) → n ≤ length ks → n ≤ length ws → n ≤ length (zip ks ws)
+pub zip-long : (ks : List ℕ) (ws : List ℤ) (n : ℕ) → n ≤ length ks → n ≤ length ws → n ≤ length (zip ks ws)
 unfolding zip zipWith
 zip-long ks ws zero h k = zero-le
 zip-long [] ws (suc n) h k = absurd (not-suc-le-zero h)
 zip-long (x ∷ ks) [] (suc n) h k = absurd (not-suc-le-zero k)
 zip-long (x ∷ ks) (w ∷ ws) (suc n) h k = suc-le-suc (zip-long ks ws n (le-of-suc-le-suc h) (le-of-suc-le-suc k))
 
-zip-at : (ks : List ℕ) (ws : List ℤ) (i : ℕ) → i < length ks → i < length ws → getD (zip ks ws) i (0, pos 0) ≡ (getD ks i 0, getD ws i (pos 0))
+pub zip-at : (ks : List ℕ) (ws : List ℤ) (i : ℕ) → i < length ks → i < length ws → getD (zip ks ws) i (0, pos 0) ≡ (getD ks i 0, getD ws i (pos 0))
 unfolding zip zipWith
 zip-at [] ws i h k = absurd (not-suc-le-zero h)
 zip-at (x ∷ ks) [] i h k = absurd (not-suc-le-zero k)

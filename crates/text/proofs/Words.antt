@@ -1,9 +1,9 @@
 -- The words of the text, by the tests that the code makes.
 -- Assumes nothing.
-use mathlib.Core.Path.{_≡_, refl, sym, ap, _∙_, subst}
-use mathlib.Core.Bool.{Bool, true, false}
+use mathlib.Core.Path.{_≡_, refl, sym, ap, _∙_}
+use mathlib.Core.Bool.{Bool, true, false, cond}
 use mathlib.Core.Option.{Option, none, some}
-use mathlib.Core.List.{List, [], _∷_}
+use mathlib.Core.List.{List, [], _∷_, _++_, append-nil}
 use Prim.Native.Nat.{ℕ, zero, suc, _-_, _^_, _<_}
 use native.Mathlib.Numerals.{sub-one}
 use native.Mathlib.Omega.{arith}
@@ -15,7 +15,7 @@ use mir.Val.{SFits, toZ, ofZ, hbits}
 use mir.Facts.{toZ-ofZ}
 use borrow.Author.Tests.{eq-eqb, ne-eqb}
 use Rattle.text.specs.Decimal.{decimal}
-use Rattle.text.specs.Text.{newline, space, fixedByte, fixedBy, valueByte, qubitText, endText, entryText, pairText, shown}
+use Rattle.text.specs.Text.{newline, space, fixedByte, fixedBy, valueByte, qubitText, endText, entryText, pairText, Shown, shown, word, comma}
 
 -- ---- a fixed value
 
@@ -64,3 +64,18 @@ entry-read n z h = let f : SFits w64 z = record { sfits = h } in ap (entryText n
 
 pub pair-read : (k : ℕ) (z : ℤ) → mag z < 2 ^ hbits w64 → pairText (k, z) ≡ pairText (k, toZ w64 (ofZ w64 z))
 pair-read k z h = let f : SFits w64 z = record { sfits = h } in ap (λ (x : ℤ). pairText (k, x)) (sym (toZ-ofZ f))
+
+-- ---- a word, by which of the two it is
+
+pub word-value : (v : Bool) (s : Shown) (b : ℕ) → v ≡ true → b ≡ valueByte s → word v s ≡ b ∷ []
+word-value v s b h e = ap (λ (v : Bool). word v s) h ∙ ap (λ (x : ℕ). x ∷ []) (sym e)
+
+pub word-qubit : (v : Bool) (s : Shown) → v ≡ false → word v s ≡ qubitText s
+word-qubit v s h = ap (λ (v : Bool). word v s) h
+
+-- with a comma after it where more follow
+pub with-comma : (b : Bool) (s : List ℕ) → b ≡ true → s ++ cond b (comma ∷ []) [] ≡ s ++ (comma ∷ [])
+with-comma b s h = ap (λ (b : Bool). s ++ cond b (comma ∷ []) []) h
+
+pub without-comma : (b : Bool) (s : List ℕ) → b ≡ false → s ++ cond b (comma ∷ []) [] ≡ s
+without-comma b s h = ap (λ (b : Bool). s ++ cond b (comma ∷ []) []) h ∙ append-nil s

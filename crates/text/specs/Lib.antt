@@ -4,3 +4,5 @@ pub mod Decimal
 pub mod Halves
 pub mod Text
 pub mod Samples
+pub mod Ready
+pub mod Determined

@@ -3,10 +3,10 @@
 -- Assumes nothing.
 use mathlib.Core.Path.{_≡_, refl, sym, ap, _∙_, subst}
 use mathlib.Core.List.{List, [], _∷_, _++_}
-use Prim.Native.Nat.{ℕ, zero, suc, _+_, _^_, _≤_, _<_}
+use Prim.Native.Nat.{ℕ, suc, _+_, _^_, _≤_, _<_}
 use native.Mathlib.Nat.{add-zero, zero-add, add-suc, suc-add}
 use native.Mathlib.Omega.{arith}
-use lib.ListN.{length, take, drop, set, length-append}
+use lib.ListN.{length, drop, set, length-append}
 use lib.Seq.{sets, length-sets, sets-eq}
 
 -- the buffer, with the bytes of a text stored from a place on; past the buffer's end nothing is stored
@@ -80,3 +80,13 @@ printed-as {s} {t} {buf} {out} {at} {next} e p = subst (λ (T : List ℕ). Print
 
 pub room-as : {at : ℕ} {s t : List ℕ} → t ≡ s → Room at t → Room at s
 room-as {at} e h = subst (Room at) e h
+
+-- ---- the two passes
+
+-- Printing into an empty part tells the length.
+pub printed-length : {t out : List ℕ} {next : ℕ} → Printed t [] 0 out next → next ≡ length t
+printed-length {t} p = p .place ∙ zero-add (length t)
+
+-- Printing into a buffer that is long enough leaves the text in it, and its other bytes as before.
+pub printed-whole : {t buf out : List ℕ} {next : ℕ} → Printed t buf 0 out next → length t ≤ length buf → out ≡ t ++ drop (length t) buf
+printed-whole {t} {buf} p h = p .bytes ∙ paste-fits buf t h

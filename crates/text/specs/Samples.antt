@@ -3,8 +3,7 @@
 -- Assumes nothing.
 use mathlib.Core.Path.{_≡_, refl}
 use mathlib.Core.Bool.{true, false}
-use mathlib.Core.List.{List, [], _∷_}
-use Prim.Native.Nat.{ℕ}
+use mathlib.Core.List.{[], _∷_}
 use Rattle.penalty.specs.declared.Kind.the-variants as row
 use Rattle.penalty.specs.Rows.{rows, rowOf}
 use Rattle.energy.specs.Plain.{wire}

@@ -41,7 +41,7 @@ pub record Sheet : Type 0 where
   -- key and count of halves
   pub pairs : List Entry
 
--- ---- its spelling
+-- ---- its spelling: bytes of ASCII, of which 63 is `?`, 48 and 49 are `0` and `1`, and 45 is `-`
 
 abbrev pub newline : ℕ
 newline = 10
@@ -86,6 +86,11 @@ valueByte (qubit q v) = fixedByte v
 abbrev pub valueText : Shown → List ℕ
 valueText s = valueByte s ∷ []
 
+-- an input bit's word: of the qubits, or of the fixed values
+abbrev pub word : Bool → Shown → List ℕ
+word false s = qubitText s
+word true s = valueText s
+
 -- "fixed value if any", to the line's end
 abbrev pub endText : Option Bool → List ℕ
 endText none = newline ∷ []
@@ -100,7 +105,7 @@ unfoldable pub entryText : ℕ → ℤ → List ℕ
 entryText n h = leadText n ++ (halvesText h ++ (newline ∷ []))
 
 unfoldable pub inputText : InputLine → List ℕ
-inputText l = leadText (l .nid) ++ (commas qubitText (l .bits) ++ (space ∷ (commas valueText (l .bits) ++ (newline ∷ []))))
+inputText l = leadText (l .nid) ++ (commas (word false) (l .bits) ++ (space ∷ (commas (word true) (l .bits) ++ (newline ∷ []))))
 
 unfoldable pub badText : BadLine → List ℕ
 badText l = leadText (l .nid) ++ (decimal (l .name) ++ endText (l .value))
@@ -112,10 +117,16 @@ linearText e = entryText (e .0) (e .1)
 unfoldable pub pairText : Entry → List ℕ
 pairText e = leadText (low (e .0)) ++ entryText (high (e .0)) (e .1)
 
+-- the inputs and the bad states, with a blank line after each
+abbrev pub circuitText : List InputLine → List BadLine → List ℕ
+circuitText is bs = lines inputText is ++ (newline ∷ (lines badText bs ++ (newline ∷ [])))
+
+-- the linear entries, a blank line, and the pairs
+abbrev pub entriesText : List (ℕ × ℤ) → List Entry → List ℕ
+entriesText ls ps = lines linearText ls ++ (newline ∷ lines pairText ps)
+
 unfoldable pub layout : Sheet → List ℕ
-layout s =
-    entryText (s .count) (s .offset)
-    ++ (newline ∷ (lines inputText (s .inputs) ++ (newline ∷ (lines badText (s .bads) ++ (newline ∷ (lines linearText (s .linear) ++ (newline ∷ lines pairText (s .pairs))))))))
+layout s = entryText (s .count) (s .offset) ++ (newline ∷ (circuitText (s .inputs) (s .bads) ++ entriesText (s .linear) (s .pairs)))
 
 -- ---- what it says of a finished model
 
@@ -128,8 +139,12 @@ abbrev pub shown : List ℕ → ℕ → Shown
 shown fs zero = absent
 shown fs (suc q) = qubit q (fixedBy (getD fs q 0))
 
+-- by a gate
+abbrev pub shownAt : List ℕ → List ℕ → ℕ → Shown
+shownAt qubits fs g = shown fs (getD qubits g 0)
+
 abbrev pub inputLine : List ℕ → List ℕ → Input → InputLine
-inputLine qubits fs i = record { nid = i .nid; bits = map (λ (g : ℕ). shown fs (getD qubits g 0)) (i .bits) }
+inputLine qubits fs i = record { nid = i .nid; bits = map (shownAt qubits fs) (i .bits) }
 
 -- a bad state has a qubit
 abbrev pub badLine : List ℕ → List ℕ → Bad → BadLine

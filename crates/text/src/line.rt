@@ -8,8 +8,7 @@ ghost use mathlib.Core.Path.{_≡_};
 ghost use Prim.Native.Nat.{_-_, _≤_, _<_};
 ghost use lib.ListN.{length, getD};
 ghost use Rattle.text.specs.Paste.{Printed, Room};
-ghost use Rattle.text.specs.Decimal.{decimal};
-ghost use Rattle.text.specs.Text.{leadText, entryText, pairText, badText, qubitText, valueText, endText, valueByte, fixedByte, fixedBy, shown};
+ghost use Rattle.text.specs.Text.{leadText, entryText, pairText, badText, qubitText, endText, valueByte, fixedByte, fixedBy, shown, word, comma};
 
 // A number that leads a line, and a space.
 pub fn put_lead(buf: &mut [u8], at: usize, n: u64) -> usize
@@ -95,4 +94,37 @@ fn put_end(buf: &mut [u8], at: usize, fixed: &[u8], name: usize) -> usize
         let last = put(buf, next, b);
         put(buf, last, b'\n')
     }
+}
+
+// A bad state's line, by its nid and its gate's entry in the table of qubits.
+pub fn put_bad(buf: &mut [u8], at: usize, nid: u64, fixed: &[u8], q: u16) -> usize
+    requires { ⌜ (0 < q) × (q ≤ length (now fixed)) × Room at (badText (record { nid = nid; name = q - 1; value = fixedBy (getD (now fixed) (q - 1) 0) })) ⌝ }
+    ensures { λ r. ⌜ Printed (badText (record { nid = nid; name = q - 1; value = fixedBy (getD (now (fixed .entry)) (q - 1) 0) })) (now (buf .entry)) at (now (buf .exit)) r ⌝ }
+{
+    let name = q - 1;
+    let next = put_lead(buf, at, nid);
+    let last = put_decimal(buf, next, name as u64);
+    put_end(buf, last, fixed, name as usize)
+}
+
+// An input bit's word: its qubit or its fixed value.
+fn put_shown(buf: &mut [u8], at: usize, fixed: &[u8], q: u16, values: bool) -> usize
+    requires { ⌜ (q ≤ length (now fixed)) × Room at (word values (shown (now fixed) q)) ⌝ }
+    ensures { λ r. ⌜ Printed (word values (shown (now (fixed .entry)) q)) (now (buf .entry)) at (now (buf .exit)) r ⌝ }
+{
+    if values {
+        let b = value_byte(fixed, q);
+        put(buf, at, b)
+    } else {
+        put_qubit(buf, at, fixed, q)
+    }
+}
+
+// The same, with a comma after it where more follow.
+pub fn put_word(buf: &mut [u8], at: usize, fixed: &[u8], q: u16, values: bool, more: bool) -> usize
+    requires { ⌜ (q ≤ length (now fixed)) × Room at (word values (shown (now fixed) q) ++ cond more (comma ∷ []) []) ⌝ }
+    ensures { λ r. ⌜ Printed (word values (shown (now (fixed .entry)) q) ++ cond more (comma ∷ []) []) (now (buf .entry)) at (now (buf .exit)) r ⌝ }
+{
+    let next = put_shown(buf, at, fixed, q, values);
+    if more { put(buf, next, b',') } else { next }
 }

@@ -1,6 +1,6 @@
 // The writer, and numbers. A byte past the buffer's end is counted and not stored, so printing into an empty part tells the length.
 ghost use mathlib.Core.List.{[], _∷_};
-ghost use Prim.Native.Nat.{_+_, _^_, _<_};
+ghost use Prim.Native.Nat.{_+_, _<_};
 ghost use lib.IntN.{natAbs};
 ghost use mathlib.Core.Path.{_≡_};
 ghost use Rattle.text.specs.Paste.{Printed, Room};

@@ -1,9 +1,8 @@
 -- `form::first_broken` meets its contract. The loop's invariant: what is kept holds of the records before n, and the first broken record of the rest is the first of all.
 -- Assumes nothing.
 use Prim.Native.Nat.{_≤_, _-_}
-use mathlib.Core.Path.{_≡_, refl, sym, _∙_}
+use mathlib.Core.Path.{_≡_, sym, _∙_}
 use native.Mathlib.Omega.{arith}
-use borrow.Author.Needs.{needs}
 use Rattle.circuit.specs.File.{records as recordsOf}
 use Rattle.circuit.specs.Search.{firstOf, stop, go-on, end, all-left}
 use Rattle.circuit.specs.Form.{breaks, firstBroken}

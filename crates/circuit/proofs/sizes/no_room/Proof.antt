@@ -1,7 +1,7 @@
 -- `sizes::no_room` meets its contract: within the limits of check 2 no number here wraps.
 -- Assumes nothing.
 use native.Mathlib.Omega.{arith}
-use Rattle.circuit.proofs.Limits.{few}
+use Rattle.circuit.specs.Limits.{few}
 use borrow.Author.Needs.{needs}
 use Rattle.circuit.proofs.sizes.no_room.Statement.{statement}
 use Rattle.circuit.proofs.sizes.no_room.Tie as tie

@@ -1,26 +1,20 @@
+-- `evaluator::rules::aux` meets its contract.
+-- Assumes nothing.
 use Rattle.evaluator.proofs.Bools.{aux-differ, aux-agree}
 use mathlib.Core.Path.{sym, _∙_}
 use borrow.Author.Needs.{needs}
 use Rattle.evaluator.proofs.rules.aux.Statement.{statement}
 use Rattle.evaluator.proofs.rules.aux.Tie as tie
-use Rattle.evaluator.proofs.rules.aux.Reads as reads
-use Rattle.evaluator.proofs.rules.aux.Lts as lts
-use Rattle.evaluator.proofs.rules.inverse.Reads as inverse-reads
-use Rattle.evaluator.proofs.rules.parity.Reads as parity-reads
 
--- src/rules.rt:322:8
 parity-requires : tie.Need-parity-requires
 parity-requires c κs = search needs
 
--- src/rules.rt:322:23
 inverse-requires : tie.Need-inverse-requires
 inverse-requires c κs = search needs
 
--- src/rules.rt:319:1
 returns : tie.Need-returns
 returns c = c .inverse .ensures ∙ aux-differ (c .before .before .before .args .p) (c .before .before .before .args .q) (c .before .before .before .args .r) (sym (c .before .before .parity .ensures) ∙ c .before .if1 .taken)
 
--- src/rules.rt:319:1
 returns-2 : tie.Need-returns-2
 returns-2 c = aux-agree (c .before .before .args .p) (c .before .before .args .q) (c .before .before .args .r) (sym (c .before .parity .ensures) ∙ c .if1 .left)
 

@@ -1,118 +1,90 @@
+-- `evaluator::rules::few_of` meets its contract.
+-- Assumes nothing.
 use borrow.Author.Needs.{needs}
 use Rattle.evaluator.proofs.rules.few_of.Statement.{statement}
 use Rattle.evaluator.proofs.rules.few_of.Tie as tie
-use Rattle.evaluator.proofs.rules.few_of.Reads as reads
-use Rattle.evaluator.proofs.rules.few_of.Lts as lts
 
--- src/rules.rt:151:19
 enum-known-rule : tie.Need-enum-known-rule
 enum-known-rule c = search needs
 
--- src/rules.rt:157:19
 enum-known-rule-2 : tie.Need-enum-known-rule-2
 enum-known-rule-2 c = search needs
 
--- src/rules.rt:163:20
 enum-known-rule-3 : tie.Need-enum-known-rule-3
 enum-known-rule-3 c = search needs
 
--- src/rules.rt:169:26
 enum-known-rule-4 : tie.Need-enum-known-rule-4
 enum-known-rule-4 c = search needs
 
--- src/rules.rt:175:18
 enum-known-rule-5 : tie.Need-enum-known-rule-5
 enum-known-rule-5 c = search needs
 
--- src/rules.rt:181:28
 enum-known-rule-6 : tie.Need-enum-known-rule-6
 enum-known-rule-6 c = search needs
 
--- src/rules.rt:187:28
 enum-known-rule-7 : tie.Need-enum-known-rule-7
 enum-known-rule-7 c = search needs
 
--- src/rules.rt:193:30
 enum-known-rule-8 : tie.Need-enum-known-rule-8
 enum-known-rule-8 c = search needs
 
--- src/rules.rt:199:30
 enum-known-rule-9 : tie.Need-enum-known-rule-9
 enum-known-rule-9 c = search needs
 
--- src/rules.rt:205:31
 enum-known-rule-10 : tie.Need-enum-known-rule-10
 enum-known-rule-10 c = search needs
 
--- src/rules.rt:211:31
 enum-known-rule-11 : tie.Need-enum-known-rule-11
 enum-known-rule-11 c = search needs
 
--- src/rules.rt:223:17
 enum-told : tie.Need-enum-told
 enum-told c = search needs
 
--- src/rules.rt:233:17
 enum-told-2 : tie.Need-enum-told-2
 enum-told-2 c = search needs
 
--- src/rules.rt:239:17
 enum-told-3 : tie.Need-enum-told-3
 enum-told-3 c = search needs
 
--- src/rules.rt:147:1
 returns : tie.Need-returns
 returns c = rw (c .before .rule .given .1)
 
--- src/rules.rt:147:1
 returns-2 : tie.Need-returns-2
 returns-2 c = rw (c .before .rule2 .given .1)
 
--- src/rules.rt:147:1
 returns-3 : tie.Need-returns-3
 returns-3 c = rw (c .before .rule3 .given .1)
 
--- src/rules.rt:147:1
 returns-4 : tie.Need-returns-4
 returns-4 c = rw (c .before .rule4 .given .1)
 
--- src/rules.rt:147:1
 returns-5 : tie.Need-returns-5
 returns-5 c = rw (c .before .rule5 .given .1)
 
--- src/rules.rt:147:1
 returns-6 : tie.Need-returns-6
 returns-6 c = rw (c .before .rule6 .given .1)
 
--- src/rules.rt:147:1
 returns-7 : tie.Need-returns-7
 returns-7 c = rw (c .before .rule7 .given .1)
 
--- src/rules.rt:147:1
 returns-8 : tie.Need-returns-8
 returns-8 c = rw (c .before .rule8 .given .1)
 
--- src/rules.rt:147:1
 returns-9 : tie.Need-returns-9
 returns-9 c = rw (c .before .rule9 .given .1)
 
--- src/rules.rt:147:1
 returns-10 : tie.Need-returns-10
 returns-10 c = rw (c .before .rule10 .given .1)
 
--- src/rules.rt:147:1
 returns-11 : tie.Need-returns-11
 returns-11 c = rw (c .before .rule11 .given .1)
 
--- src/rules.rt:147:1
 returns-12 : tie.Need-returns-12
 returns-12 c = rw (c .enum-told .given .1)
 
--- src/rules.rt:147:1
 returns-13 : tie.Need-returns-13
 returns-13 c = rw (c .enum-told2 .given .1)
 
--- src/rules.rt:147:1
 returns-14 : tie.Need-returns-14
 returns-14 c = rw (c .enum-told3 .given .1)
 

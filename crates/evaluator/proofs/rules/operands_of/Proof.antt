@@ -1,68 +1,48 @@
-use borrow.Author.Tests.{eq-eqb, ne-eqb, lt-ltb, le-ltb}
-use mathlib.Core.Path.{refl, sym, ap, _∙_}
-use native.Mathlib.Omega.{arith}
+-- `evaluator::rules::operands_of` meets its contract.
+-- Assumes nothing.
 use borrow.Author.Needs.{needs}
 use Rattle.evaluator.proofs.rules.operands_of.Statement.{statement}
 use Rattle.evaluator.proofs.rules.operands_of.Tie as tie
-use Rattle.evaluator.proofs.rules.operands_of.Reads as reads
-use Rattle.evaluator.proofs.rules.operands_of.Lts as lts
-use Rattle.evaluator.proofs.rules.act_of.Reads as act-of-reads
-use Rattle.evaluator.proofs.rules.few_of.Reads as few-of-reads
-use Rattle.evaluator.proofs.rules.part_of.Reads as part-of-reads
 
--- src/rules.rt:471:9
 few-of-requires : tie.Need-few-of-requires
 few-of-requires c κs = search needs
 
--- src/rules.rt:472:9
 act-of-requires : tie.Need-act-of-requires
 act-of-requires c κs = search needs
 
--- src/rules.rt:476:20
 enum-told : tie.Need-enum-told
 enum-told c = search needs
 
--- src/rules.rt:481:13
 enum-known-act : tie.Need-enum-known-act
 enum-known-act c = search needs
 
--- src/rules.rt:484:17
 part-of-requires : tie.Need-part-of-requires
 part-of-requires c κs = (rw (← c .before .before .before .act-of .ensures, c .before .act .given .1) at (c .before .before .before .before .before .before .pre)) .0
 
--- src/rules.rt:485:17
 part-of-requires-2 : tie.Need-part-of-requires-2
 part-of-requires-2 c κs = (rw (← c .before .before .before .before .act-of .ensures, c .before .before .act .given .1) at (c .before .before .before .before .before .before .before .pre)) .1
 
--- src/rules.rt:490:13
 enum-known-act-2 : tie.Need-enum-known-act-2
 enum-known-act-2 c = search needs
 
--- src/rules.rt:493:17
 part-of-requires-3 : tie.Need-part-of-requires-3
 part-of-requires-3 c κs = (rw (← c .before .before .before .act-of .ensures, c .before .act2 .given .1) at (c .before .before .before .before .before .before .pre)) .0
 
--- src/rules.rt:494:17
 part-of-requires-4 : tie.Need-part-of-requires-4
 part-of-requires-4 c κs = (rw (← c .before .before .before .before .act-of .ensures, c .before .before .act2 .given .1) at (c .before .before .before .before .before .before .before .pre)) .1
 
--- src/rules.rt:499:20
 enum-told-2 : tie.Need-enum-told-2
 enum-told-2 c = search needs
 
--- src/rules.rt:467:1
 returns : tie.Need-returns
 returns c = rw (c .before .before .before .few-of .ensures, ← c .before .before .act-of .ensures, c .enum-told .given .1)
 
--- src/rules.rt:467:1
 returns-2 : tie.Need-returns-2
 returns-2 c = rw (c .part-of2 .ensures, c .before .part-of .ensures, c .before .before .before .before .before .before .few-of .ensures, ← c .before .before .before .before .before .act-of .ensures, c .before .before .before .act .given .1)
 
--- src/rules.rt:467:1
 returns-3 : tie.Need-returns-3
 returns-3 c = rw (c .part-of4 .ensures, c .before .part-of3 .ensures, c .before .before .before .before .before .before .few-of .ensures, ← c .before .before .before .before .before .act-of .ensures, c .before .before .before .act2 .given .1)
 
--- src/rules.rt:467:1
 returns-4 : tie.Need-returns-4
 returns-4 c = rw (c .before .before .before .few-of .ensures, ← c .before .before .act-of .ensures, c .enum-told2 .given .1)
 

@@ -1,46 +1,35 @@
-use borrow.Author.Tests.{eq-eqb, ne-eqb, lt-ltb, le-ltb}
-use mathlib.Core.Path.{refl, sym, ap, _∙_}
+-- `evaluator::rules::part_of` meets its contract.
+-- Assumes nothing.
 use native.Mathlib.Omega.{arith}
 use Prim.Native.Nat.{_+_}
 use borrow.Author.Needs.{needs}
 use Rattle.evaluator.proofs.rules.part_of.Statement.{statement}
 use Rattle.evaluator.proofs.rules.part_of.Tie as tie
-use Rattle.evaluator.proofs.rules.part_of.Reads as reads
-use Rattle.evaluator.proofs.rules.part_of.Lts as lts
 
--- src/rules.rt:460:16
 mul-from : tie.Need-mul-from
 mul-from c = search needs
 
--- src/rules.rt:460:16
 shared-slice-read-from : tie.Need-shared-slice-read-from
 shared-slice-read-from c = search needs
 
--- src/rules.rt:460:16
 cast-from : tie.Need-cast-from
 cast-from c = omega (arith, c .shared-slice-known .given (c .before .args .k))
 
--- src/rules.rt:461:22
 add-end : tie.Need-add-end
 add-end c = search needs
 
--- src/rules.rt:461:15
 mul-end : tie.Need-mul-end
 mul-end c = search needs
 
--- src/rules.rt:461:15
 shared-slice-read-end : tie.Need-shared-slice-read-end
 shared-slice-read-end c = search needs
 
--- src/rules.rt:461:15
 cast-end : tie.Need-cast-end
 cast-end c = omega (arith, c .shared-slice-known2 .given (c .before .before .args .k + 1))
 
--- src/rules.rt:462:16
 sub-bits : tie.Need-sub-bits
 sub-bits c = search needs
 
--- src/rules.rt:455:1
 returns : tie.Need-returns
 returns c = search needs
 

@@ -1,3 +1,5 @@
+-- `evaluator::rules::qubit_of` meets its contract.
+-- Assumes nothing.
 use lib.ListN.{List·getD-eq-default}
 use denote.Ref.{now}
 use mathlib.Core.Path.{ap}
@@ -6,30 +8,22 @@ use Rattle.units.specs.Name.{qubit}
 use borrow.Author.Needs.{needs}
 use Rattle.evaluator.proofs.rules.qubit_of.Statement.{statement}
 use Rattle.evaluator.proofs.rules.qubit_of.Tie as tie
-use Rattle.evaluator.proofs.rules.qubit_of.Reads as reads
-use Rattle.evaluator.proofs.rules.qubit_of.Lts as lts
 
--- src/rules.rt:82:21
 mul-entry : tie.Need-mul-entry
 mul-entry c = search needs
 
--- src/rules.rt:82:21
 shared-slice-read-entry : tie.Need-shared-slice-read-entry
 shared-slice-read-entry c = search needs
 
--- src/rules.rt:86:24
 sub-name : tie.Need-sub-name
 sub-name c = search needs
 
--- src/rules.rt:77:1
 returns : tie.Need-returns
 returns c = ap qubit (omega arith)
 
--- src/rules.rt:77:1
 returns-2 : tie.Need-returns-2
 returns-2 c = search needs
 
--- src/rules.rt:77:1
 returns-3 : tie.Need-returns-3
 returns-3 c = ap qubit (omega (arith, List·getD-eq-default (now (c .before .args .qubits)) 0 (c .if1 .left)))
 

@@ -5,10 +5,8 @@
 -- Assumes nothing.
 use mathlib.Core.Path.{refl, sym, ap, _∙_}
 use mathlib.Core.Bool.{Bool, true, false}
-use mathlib.Core.List.{List, _∷_}
 use Prim.Native.Nat.{ℕ, _+_, _*_, _-_, _<_}
 use native.Mathlib.Omega.{arith}
-use lib.ListN.{length, getD}
 use borrow.Author.Needs.{needs}
 use borrow.Fn.Kinds.{In}
 use borrow.Fn.PlainCycle.{Measures, is, falls, and}
@@ -16,7 +14,7 @@ use Rattle.circuit.specs.File.{field, kindAt}
 use Rattle.circuit.specs.Meaning.{listOf}
 use Rattle.numbering.specs.State.{State, mk}
 use Rattle.numbering.specs.Visit.{oneName, processOf, visits}
-use Rattle.numbering.specs.Read.{arity, actOf, isDivision, fieldsFrom, bitsFrom, gatesIn}
+use Rattle.numbering.specs.Read.{arity, isDivision, fieldsFrom, gatesFrom, gatesIn}
 use Rattle.numbering.proofs.Cycle.{from-process, had, Stage, then, record-there, name-asked, list-first, list-second, listed-first, divided}
 use Rattle.numbering.proofs.Cycle.{operands-asked, visited, finish-asked, finished, answer}
 use Rattle.numbering.proofs.Cycle.{Going, loop-asked, going-on, fields-all, fields-on, fields-done, bits-all, bits-on, bits-done}
@@ -372,7 +370,7 @@ module _ (t : ℕ) where
 
   abbrev visit-list-Inv-loop : visit-list-lts.InvT-loop
   visit-list-Inv-loop circuit starts qubits₀ origins₀ roles₀ k at list end n₀ free₀ qubits origins roles n free =
-      Going circuit starts at (listOf circuit k) (mk qubits₀ origins₀ roles₀ (free₀ .0)) (bitsFrom circuit n (end - n)) (mk qubits origins roles (free .0))
+      Going circuit starts at (listOf circuit k) (mk qubits₀ origins₀ roles₀ (free₀ .0)) (gatesFrom circuit 1 n (end - n)) (mk qubits origins roles (free .0))
 
   abbrev visit-list-μ-loop : visit-list-lts.MeasureT-loop
   visit-list-μ-loop circuit starts qubits₀ origins₀ roles₀ k at list end n₀ free₀ qubits origins roles n free = end - n

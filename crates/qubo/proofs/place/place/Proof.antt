@@ -1,6 +1,6 @@
 -- `place::place` meets its contract: the offset, the linear coefficients and the pairs in turn (`Placing`).
 -- Assumes nothing.
-use mathlib.Core.Path.{_≡_, refl, sym, ap, _∙_}
+use mathlib.Core.Path.{_≡_, sym, _∙_}
 use Prim.Native.Nat.{_≤_}
 use native.Mathlib.Omega.{arith}
 use lib.IntN.{ℤ, _+ℤ_}
@@ -14,7 +14,8 @@ use Rattle.energy.specs.Model.{halves}
 use Rattle.energy.specs.Mass.{abs-halves}
 use Rattle.pairs.specs.Store.{zip}
 use Rattle.pairs.proofs.Tables.{length-zip}
-use Rattle.qubo.specs.Tables.{tables, slotsOf}
+use Rattle.store.specs.Tables.{tables}
+use Rattle.qubo.specs.Wiring.{slotsOf}
 use Rattle.qubo.specs.Room.{filled}
 use Rattle.qubo.proofs.Placing.{held, all-placed}
 use Rattle.qubo.proofs.place.place.Statement.{statement}

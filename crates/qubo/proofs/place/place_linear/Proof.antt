@@ -1,9 +1,9 @@
 -- `place::place_linear` meets its contract: what is left to add equals what there was (`Placing`).
 -- Assumes nothing.
-use mathlib.Core.Path.{_≡_, refl, sym, ap, _∙_, subst}
-use Prim.Native.Nat.{ℕ, _≤_, _<_, _-_}
+use mathlib.Core.Path.{_≡_, refl, sym, ap, subst}
+use Prim.Native.Nat.{_≤_, _<_, _-_}
 use native.Mathlib.Omega.{arith}
-use lib.IntN.{ℤ, pos, _+ℤ_}
+use lib.IntN.{ℤ, pos}
 use lib.ListN.{length, getD}
 use mir.Syntax.{w64}
 use mir.Val.{SFits}
@@ -13,7 +13,7 @@ use Rattle.laws.specs.Abs.{fits-abs}
 use Rattle.penalty.specs.Rows.{singles}
 use Rattle.energy.specs.Model.{halves}
 use Rattle.energy.specs.Mass.{sizes-at, abs-halves}
-use Rattle.qubo.specs.Tables.{slotsOf, firsts}
+use Rattle.qubo.specs.Wiring.{slotsOf}
 use Rattle.qubo.proofs.Placing.{Linears, linear-turn, firsts-below, linear-done}
 use Rattle.qubo.proofs.place.place_linear.Statement.{statement}
 use Rattle.qubo.proofs.place.place_linear.Tie as tie

@@ -3,7 +3,7 @@
 use mathlib.Core.Path.{_≡_, refl, sym, ap, _∙_, subst}
 use Prim.Native.Nat.{ℕ, _≤_, _<_, _-_}
 use native.Mathlib.Omega.{arith}
-use lib.IntN.{ℤ, pos, _+ℤ_}
+use lib.IntN.{ℤ, pos}
 use lib.ListN.{length, getD}
 use mir.Syntax.{w64}
 use mir.Val.{SFits}
@@ -13,8 +13,7 @@ use Rattle.laws.specs.Abs.{fits-abs}
 use Rattle.penalty.specs.Rows.{twos}
 use Rattle.energy.specs.Model.{halves}
 use Rattle.energy.specs.Mass.{abs-halves}
-use Rattle.qubo.specs.Tables.{slotsOf}
-use Rattle.qubo.specs.Room.{filledBy}
+use Rattle.qubo.specs.Wiring.{slotsOf}
 use Rattle.qubo.proofs.Placing.{Logging, pairs-room, pairs-turn, firsts-below, seconds-below, pairs-done}
 use Rattle.qubo.proofs.place.place_pairs.Statement.{statement}
 use Rattle.qubo.proofs.place.place_pairs.Tie as tie

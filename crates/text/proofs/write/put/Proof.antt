@@ -2,9 +2,8 @@
 -- Assumes nothing.
 use mathlib.Core.Path.{_≡_, sym, ap, _∙_}
 use mathlib.Core.Logic.{⊎-elim}
-use mathlib.Core.List.{List, [], _∷_}
-use Prim.Native.Nat.{_<_}
-use lib.ListN.{length, set, length-set}
+use mathlib.Core.List.{[], _∷_}
+use lib.ListN.{length}
 use lib.Seq.{set-out}
 use borrow.Author.Needs.{needs}
 use Rattle.text.specs.Paste.{paste, paste-one, length-paste}

@@ -1,7 +1,5 @@
 -- `write::put_half` meets its contract: the whole part, and `.5` where the count is odd.
 -- Assumes nothing.
-use mathlib.Core.Path.{_≡_, refl, sym}
-use mathlib.Core.List.{List, []}
 use Prim.Native.Nat.{ℕ, _/_, _%_}
 use lib.Dec.{eqb}
 use borrow.Author.Needs.{needs}

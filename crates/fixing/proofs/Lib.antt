@@ -1,0 +1,4 @@
+-- Lemmas that several proofs cite.
+pub mod Removing
+pub mod Fixed
+pub mod Turns

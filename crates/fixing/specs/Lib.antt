@@ -1,0 +1,3 @@
+-- What fixing and the Ising form ask of the tables.
+pub mod Fixing
+pub mod Turning

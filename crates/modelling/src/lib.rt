@@ -1,0 +1,47 @@
+// The model of a numbered circuit: the penalties of its gates and joins placed at their qubits, the pairs settled, the qubits fixed, the form turned and the variables counted.
+// `rows` reads a name's row off the circuit and the tables of names, `placing` places all of them.
+use penalty::Kind;
+use qubo::Wires;
+use store::Totals;
+use units::Qubit;
+
+pub mod fixes;
+pub mod model;
+pub mod placing;
+pub mod rows;
+
+// The row of a gate: by the penalty of a kind, or none.
+pub enum Ruled {
+    By(Kind),
+    Free,
+}
+
+// A row that is to be placed, with the qubits at its slots; or none.
+pub enum Placed {
+    At(Kind, Wires),
+    Nothing,
+}
+
+// A qubit that is fixed, and the value.
+pub struct Fix {
+    pub qubit: Qubit,
+    pub on: bool,
+}
+
+// All qubits are fixed; or a qubit is to be fixed to two values.
+pub enum Fixed {
+    Done(Totals),
+    Clash(Qubit),
+}
+
+// The offset and the pair count of a finished model, and its variable count.
+pub struct Counted {
+    pub totals: Totals,
+    pub variables: usize,
+}
+
+// A finished model; or a qubit is to be fixed to two values.
+pub enum Modelled {
+    Model(Counted),
+    Refused(Qubit),
+}

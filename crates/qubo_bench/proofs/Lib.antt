@@ -1,0 +1,2 @@
+-- What the timing program's loops keep.
+pub mod Rounds

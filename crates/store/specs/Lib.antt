@@ -1,0 +1,4 @@
+-- What stands in the tables, and what reading it asks.
+pub mod Tables
+pub mod Held
+pub mod Evaluating
