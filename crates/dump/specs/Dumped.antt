@@ -1,0 +1,76 @@
+-- What `dump_model` does, from the bytes of a circuit to the lent tables, the buffer and the answer. "Running and printing start from the circuit bytes and build first."
+-- Assumes nothing: these are definitions.
+use mathlib.Core.Path.{_≡_, refl, sym, ap, _∙_, subst}
+use mathlib.Core.Bool.{Bool, true, false}
+use mathlib.Core.List.{List, _++_, zip}
+use Prim.Native.Nat.{ℕ, _≤_, _<_}
+use lib.Dec.{ltb}
+use lib.IntN.{ℤ}
+use lib.ListN.{length, take, drop}
+use borrow.Author.Tests.{lt-ltb, le-ltb}
+use Rattle.units.specs.declared.Form.{Form}
+use Rattle.circuit.specs.declared.Refusal.{Refusal}
+use Rattle.circuit.specs.declared.Refusal.the-variants.{ShortText}
+use Rattle.circuit.specs.Meaning.{circuitOf}
+use Rattle.numbering.specs.State.{namesOf}
+use Rattle.qubot.specs.declared.Built.{Built}
+use Rattle.qubot.specs.declared.Built.the-variants.{Done, Refused as Rejected}
+use Rattle.qubot.specs.declared.Finished.{Finished}
+use Rattle.qubot.specs.Built.{Tables, built}
+use Rattle.text.specs.Text.{layout, sheetBy}
+use Rattle.dump.specs.declared.Dumped.{Dumped}
+use Rattle.dump.specs.declared.Dumped.the-variants.{Text, Refused}
+
+-- the text of the model that the tables and the answer of a build hold
+abbrev pub textIn : List ℕ → Tables → Finished → List ℕ
+textIn b u f =
+    layout
+    (sheetBy (circuitOf b) (u .qubits) (f .variables) (f .offset) (take (namesOf (circuitOf b)) (u .fixed)) (take (namesOf (circuitOf b)) (u .hasLinear))
+    (take (namesOf (circuitOf b)) (u .linear))
+    (take (f .pairs) (zip (u .keys) (u .weights))))
+
+-- "17: the text buffer is shorter than the text; it stays unchanged." Else the text stands at its front, and the other bytes stay.
+abbrev pub intoBuffer : Bool → List ℕ → List ℕ → List ℕ × Dumped
+intoBuffer true text buf = (buf, Refused ShortText)
+intoBuffer false text buf = (text ++ drop (length text) buf, Text (length text))
+
+abbrev pub writtenTo : List ℕ → List ℕ → List ℕ × Dumped
+writtenTo text buf = intoBuffer (ltb (length buf) (length text)) text buf
+
+-- "1 to 9 change no text byte."
+abbrev pub dumpedBy : List ℕ → List ℕ → Tables × Built → Tables × (List ℕ × Dumped)
+dumpedBy b buf (u, Rejected r) = (u, (buf, Refused r))
+dumpedBy b buf (u, Done f) = (u, writtenTo (textIn b u f) buf)
+
+-- The tables, the buffer and the answer, for all bytes, both forms, all tables and all buffers.
+unfoldable pub dumped : List ℕ → Form → Tables → List ℕ → Tables × (List ℕ × Dumped)
+dumped b form t buf = dumpedBy b buf (built b form t)
+
+-- Two answers that the promise allows are equal, and so are the tables and the buffer.
+pub determined : (b : List ℕ) (form : Form) (t : Tables) (buf : List ℕ) (x y : Tables × (List ℕ × Dumped)) → x ≡ dumped b form t buf → y ≡ dumped b form t buf → x ≡ y
+determined b form t buf x y e f = e ∙ sym f
+
+-- a buffer that is shorter than the text, and one that is not
+pub too-short : (text buf : List ℕ) (n : ℕ) → n ≡ length text → length buf < n → (buf, Refused ShortText) ≡ writtenTo text buf
+too-short text buf n e h = rw (lt-ltb (length buf) (length text) (subst (λ (k : ℕ). length buf < k) e h))
+
+pub long-enough : (text buf out : List ℕ) (n : ℕ) → n ≡ length text → n ≤ length buf → out ≡ text ++ drop (length text) buf → (out, Text n) ≡ writtenTo text buf
+long-enough text buf out n e h o =
+    rw (le-ltb (length buf) (length text) (subst (λ (k : ℕ). k ≤ length buf) e h)) (λ i. (o i, Text (e i)))
+
+-- the text, as the code has its numbers
+pub text-as : (b : List ℕ) (u : Tables) (f : Finished) (n : ℕ) (o : ℤ) → n ≡ namesOf (circuitOf b) → o ≡ f .offset
+    → layout (sheetBy (circuitOf b) (u .qubits) (f .variables) o (take n (u .fixed)) (take n (u .hasLinear)) (take n (u .linear)) (take (f .pairs) (zip (u .keys) (u .weights)))) ≡ textIn b u f
+text-as b u f n o e p i =
+    layout (sheetBy (circuitOf b) (u .qubits) (f .variables) (p i) (take (e i) (u .fixed)) (take (e i) (u .hasLinear)) (take (e i) (u .linear)) (take (f .pairs) (zip (u .keys) (u .weights))))
+
+-- ---- by the build's answer
+
+pub refused-by : (b : List ℕ) (form : Form) (t u : Tables) (buf : List ℕ) (r : Refusal) (x : Built) → (u, x) ≡ built b form t → x ≡ Rejected r → (u, (buf, Refused r)) ≡ dumped b form t buf
+unfolding dumped
+refused-by b form t u buf r x e p = ap (dumpedBy b buf) (ap (λ (y : Built). (u, y)) (sym p) ∙ e)
+
+pub done-by : (b : List ℕ) (form : Form) (t u : Tables) (buf : List ℕ) (f : Finished) (x : Built) (w : List ℕ × Dumped) → (u, x) ≡ built b form t → x ≡ Done f
+    → w ≡ writtenTo (textIn b u f) buf → (u, w) ≡ dumped b form t buf
+unfolding dumped
+done-by b form t u buf f x w e p h = ap (λ (y : List ℕ × Dumped). (u, y)) h ∙ ap (dumpedBy b buf) (ap (λ (y : Built). (u, y)) (sym p) ∙ e)
