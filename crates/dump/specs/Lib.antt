@@ -1,2 +1,3 @@
 pub mod Dumped
 pub mod Left
+pub mod Says
