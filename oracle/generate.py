@@ -1,7 +1,7 @@
 #!/usr/bin/env python3
 """Makes a stream of cases for `oracle` and for `gloprast answers`: generate.py SEED CIRCUITS [RUNS] > cases
 
-Each circuit is asked for its model in both forms and for RUNS runs (3 by default) in a random form. The circuits have every kind of gate,
+Each circuit is asked for its model in both forms and for the runs of RUNS lists of values (3 by default) in both forms. The circuits have every kind of gate,
 shared operands, constants, divisions (also nested), carries, several bad states, constraints, unreached gates, unlisted inputs and limits;
 about one in ten is damaged: a field, a kind, a section's order, a length. The same seed makes the same bytes.
 """
@@ -161,21 +161,27 @@ def values_for(r, sizes):
     return values
 
 
-def main():
-    seed = int(sys.argv[1])
-    count = int(sys.argv[2])
-    runs = int(sys.argv[3]) if len(sys.argv) > 3 else 3
+def stream(seed, count, runs):
+    """The bytes of the cases of so many circuits."""
     r = random.Random(seed)
-    out = sys.stdout.buffer
+    out = []
     for _ in range(count):
         records, sizes = circuit(r)
         raw = b''.join(records)
         if r.random() < 0.1:
             raw = damaged(r, records)
-        out.write(case(0, 0, raw))
-        out.write(case(1, 0, raw))
+        out += [case(form, 0, raw) for form in (0, 1)]
         for _ in range(runs):
-            out.write(case(r.randrange(2), 1, raw, values_for(r, sizes)))
+            values = values_for(r, sizes)
+            out += [case(form, 1, raw, values) for form in (0, 1)]
+    return b''.join(out)
+
+
+def main():
+    seed = int(sys.argv[1])
+    count = int(sys.argv[2])
+    runs = int(sys.argv[3]) if len(sys.argv) > 3 else 3
+    sys.stdout.buffer.write(stream(seed, count, runs))
 
 
 if __name__ == '__main__':

@@ -2,7 +2,11 @@
 // number, and prints what the original answers: the model's text, or a run's energy and bad states by a fresh evaluator.
 // A case is form (0 binary, 1 Ising), job (0 model, 1 run), count of values (2 bytes), length of the circuit (4 bytes), the circuit, and 8 bytes
 // for each value, all little endian. A panic of the original is caught and said. A circuit that cannot be filled (a record that breaks the form, a
-// gate that is not there) is said to be unfilled: the original has no record files, so it has no answer to those.
+// gate that is not there, a division over a list that holds a gate which is not earlier, which the original could follow for ever) is said to be unfilled:
+// the original has no record files, so it has no answer to those.
+// Two words serve the speed benchmark: `fill` fills each GateModel and answers nothing more, and `adders N` places 1,019 full adders into the original's
+// Qubo, N times.
+// For timing: with the argument `fill` the models are filled and nothing is built; with `place` full adders are placed in the original's store and no case is read.
 #![allow(dead_code, unused_imports, clippy::all)]
 mod unicorn;
 
@@ -11,7 +15,7 @@ use std::collections::HashMap;
 use std::io::{Read, Write};
 use std::panic::{catch_unwind, AssertUnwindSafe};
 use unicorn::bitblasting::{Gate, GateModel, GateRef, HashableGateRef};
-use unicorn::qubot::{InputEvaluator, Qubit, Qubot};
+use unicorn::qubot::{InputEvaluator, Qubit, Qubo, Qubot};
 use unicorn::{HashableNodeRef, Node, NodeRef, NodeType};
 
 thread_local! {
@@ -92,6 +96,7 @@ fn filled(c: &[u8]) -> Option<GateModel> {
     let all = records(c)?;
     let mut gates: Vec<GateRef> = Vec::new();
     let mut lists: Vec<Vec<GateRef>> = Vec::new();
+    let mut latest: Vec<usize> = Vec::new();
     let mut model = GateModel {
         bad_state_gates: Vec::new(),
         bad_state_nodes: Vec::new(),
@@ -103,7 +108,7 @@ fn filled(c: &[u8]) -> Option<GateModel> {
         witness: None,
     };
     let mut listed = Vec::new();
-    let mut divisions: Vec<(GateRef, usize, usize)> = Vec::new();
+    let mut divisions: Vec<(usize, usize, usize)> = Vec::new();
     for r in all.iter() {
         match r.kind {
             0..=13 => {
@@ -115,15 +120,17 @@ fn filled(c: &[u8]) -> Option<GateModel> {
                     model.mapping_adders.insert(HashableGateRef::from(made.clone()), gates[r.f[0]].clone());
                 }
                 if r.kind == 12 || r.kind == 13 {
-                    divisions.push((made.clone(), r.f[0], r.f[1]));
+                    divisions.push((gates.len(), r.f[0], r.f[1]));
                 }
                 gates.push(made);
             }
             20 => {
                 while lists.len() <= r.f[0] {
                     lists.push(Vec::new());
+                    latest.push(0);
                 }
                 lists[r.f[0]].push(gates.get(r.f[1])?.clone());
+                latest[r.f[0]] = latest[r.f[0]].max(r.f[1]);
             }
             21 => {
                 model.bad_state_gates.push(gates.get(r.f[0])?.clone());
@@ -148,9 +155,12 @@ fn filled(c: &[u8]) -> Option<GateModel> {
     for (n, l) in nodes.iter().zip(lists.iter()) {
         model.mapping.insert(HashableNodeRef::from(n.clone()), l.clone());
     }
-    for (g, a, b) in divisions {
+    for (n, a, b) in divisions {
         let pair = (nodes.get(a)?.clone(), nodes.get(b)?.clone());
-        model.constraint_based_dependencies.insert(HashableGateRef::from(g), pair);
+        if latest[a] >= n || latest[b] >= n {
+            return None;
+        }
+        model.constraint_based_dependencies.insert(HashableGateRef::from(gates[n].clone()), pair);
     }
     LISTED.with(|l| *l.borrow_mut() = listed);
     Some(model)
@@ -196,13 +206,55 @@ fn run_text(model: &GateModel, ising: bool, values: &[i64]) -> Option<Vec<u8>> {
     .ok()
 }
 
+// The coefficients of a full adder, in the order in which the original's process_gate adds them.
+fn add_full_adder(qubo: &mut Qubo, x: [Qubit; 3], z: Qubit, aux: Qubit, carry: Qubit) {
+    let [x1, x2, x3] = x;
+    for (q, c) in [(x1, 2.0), (x2, 2.0), (x3, 2.0), (z, 2.0), (aux, 4.0), (carry, 4.0)] {
+        qubo.add_linear_coeff(q, c);
+    }
+    let pairs = [
+        (x1, aux, -4.0),
+        (x1, carry, -4.0),
+        (x2, aux, -4.0),
+        (x2, carry, -4.0),
+        (x1, x2, 4.0),
+        (x3, aux, 4.0),
+        (x3, carry, -4.0),
+        (z, aux, -4.0),
+        (z, carry, 4.0),
+        (z, x3, -4.0),
+    ];
+    for (p, q, c) in pairs {
+        qubo.add_quadratic_coeffs(p, q, c);
+    }
+}
+
+// The adders of crates/qubo_bench, at the same qubits. Prints how many pairs the model has.
+fn place_adders(rounds: usize) {
+    let mut pairs = 0;
+    for _ in 0..rounds {
+        let mut qubo = Qubo::new(false);
+        for i in 0..1019u64 {
+            let at = |n: u64| Qubit { name: n % 3065 };
+            add_full_adder(&mut qubo, [at(i * 7), at(i * 11 + 1), at(i * 13 + 2)], at(i * 3 + 4), at(i * 3 + 2), at(i * 3 + 3));
+        }
+        pairs = qubo.quadratic_coefficients.values().map(|row| row.len()).sum::<usize>() / 2;
+    }
+    println!("{}", pairs);
+}
+
 fn main() {
     std::panic::set_hook(Box::new(|_| {}));
-    let worker = std::thread::Builder::new().stack_size(1 << 30).spawn(answers).unwrap();
+    let words: Vec<String> = std::env::args().skip(1).collect();
+    if words.len() == 2 && words[0] == "adders" {
+        return place_adders(words[1].parse().unwrap());
+    }
+    let only_fill = words.len() == 1 && words[0] == "fill";
+    let worker = std::thread::Builder::new().stack_size(1 << 30).spawn(move || answers(only_fill)).unwrap();
     worker.join().unwrap();
 }
 
-fn answers() {
+fn answers(only_fill: bool) {
     let mut input = Vec::new();
     std::io::stdin().read_to_end(&mut input).unwrap();
     let stdout = std::io::stdout();
@@ -224,6 +276,7 @@ fn answers() {
         number += 1;
         let said = match filled(circuit) {
             None => b"unfilled\n".to_vec(),
+            Some(_) if only_fill => Vec::new(),
             Some(model) => {
                 let text = if job == 0 { model_text(&model, ising) } else { run_text(&model, ising, &values) };
                 text.unwrap_or_else(|| b"panic\n".to_vec())

@@ -1,6 +1,3 @@
 mod Starting
 mod Topping
-mod Late
-mod Wrong
-mod Checks
 mod Reading

@@ -1,15 +1,10 @@
-// The circuit file: records of 16 bytes, the refusals 1 to 7, and what the bytes mean. The one crate that knows how a record lies in bytes.
-// `records` reads a record's parts, `check` answers the checks 1 to 7 (`sizes` 2, 6 and 7, `form` 3, `earlier` 4, `partner` 5), `lists` says where lists and inputs stand,
-// and `parts` reads bad states, constraints and inputs of an accepted file. What each function answers is a definition of specs/, which follow 01 sentence by sentence.
+// The circuit file: records of 16 bytes, what the bytes mean, and when they are refused. The one crate that knows how a record lies in bytes.
+// `records` reads a record's parts, `lists` says where lists and inputs stand, and `parts` reads bad states, constraints and inputs of an accepted file.
+// The definitions in specs/ follow 01 sentence by sentence; the code of the checks 1 to 7 is the crates `form` and `checks`.
 pub mod answers;
-pub mod check;
-pub mod earlier;
-pub mod form;
 pub mod lists;
-pub mod partner;
 pub mod parts;
 pub mod records;
-pub mod sizes;
 
 use units::Gate;
 use units::Qubit;
@@ -79,7 +74,7 @@ pub struct Counts {
     pub inputs: usize,
 }
 
-// The ways to say no, by 01's numbers, each with its place. This crate gives 1 to 7.
+// The ways to say no, by 01's numbers, each with its place.
 pub enum Refusal {
     // 1: length is not a multiple of 16
     Length,

@@ -6,10 +6,10 @@ mod text;
 
 use build::Group;
 use build::fill;
+use checks::check;
 use circuit::Checked;
 use circuit::answers::number_of;
 use circuit::answers::place_of;
-use circuit::check::check;
 use libc::STDIN_FILENO;
 use libc::STDOUT_FILENO;
 use text::find;

@@ -1,12 +1,13 @@
 -- What `dump_model` does, from the bytes of a circuit to the lent tables, the buffer and the answer. "Running and printing start from the circuit bytes and build first."
 -- Assumes nothing: these are definitions.
-use mathlib.Core.Path.{_≡_, refl, sym, ap, _∙_, subst}
+use mathlib.Core.Path.{_≡_, refl, sym, ap, _∙_, subst, subst⁻¹}
 use mathlib.Core.Bool.{Bool, true, false}
 use mathlib.Core.List.{List, _++_, zip}
 use Prim.Native.Nat.{ℕ, _≤_, _<_}
 use lib.Dec.{ltb}
 use lib.IntN.{ℤ}
-use lib.ListN.{length, take, drop}
+use native.Mathlib.Omega.{arith}
+use lib.ListN.{length, take, drop, length-append}
 use borrow.Author.Tests.{lt-ltb, le-ltb}
 use Rattle.units.specs.declared.Form.{Form}
 use Rattle.circuit.specs.declared.Refusal.{Refusal}
@@ -74,3 +75,24 @@ pub done-by : (b : List ℕ) (form : Form) (t u : Tables) (buf : List ℕ) (f : 
     → w ≡ writtenTo (textIn b u f) buf → (u, w) ≡ dumped b form t buf
 unfolding dumped
 done-by b form t u buf f x w e p h = ap (λ (y : List ℕ × Dumped). (u, y)) h ∙ ap (dumpedBy b buf) (ap (λ (y : Built). (u, y)) (sym p) ∙ e)
+
+-- ---- A text that was printed lies within the buffer.
+
+abbrev pub Inside : List ℕ × Dumped → Type 0
+Inside (out, Text n) = n ≤ length out
+Inside (out, Refused r) = Unit
+
+inside-buffer : (short : Bool) (text buf : List ℕ) → Inside (intoBuffer short text buf)
+inside-buffer true text buf = tt
+inside-buffer false text buf = omega (arith, length-append text (drop (length text) buf))
+
+inside-by : (b buf : List ℕ) (y : Tables × Built) → Inside (dumpedBy b buf y .1)
+inside-by b buf (u, Rejected r) = tt
+inside-by b buf (u, Done f) = inside-buffer (ltb (length buf) (length (textIn b u f))) (textIn b u f) buf
+
+pub dumped-inside : (b : List ℕ) (form : Form) (t : Tables) (buf : List ℕ) (x : Tables × (List ℕ × Dumped)) → x ≡ dumped b form t buf → Inside (x .1)
+unfolding dumped
+dumped-inside b form t buf x e = subst⁻¹ (λ (y : Tables × (List ℕ × Dumped)). Inside (y .1)) e (inside-by b buf (built b form t))
+
+pub inside : (b : List ℕ) (form : Form) (t u : Tables) (buf out : List ℕ) (n : ℕ) (x : Dumped) → _≡_ {A = Tables × (List ℕ × Dumped)} (u, (out, x)) (dumped b form t buf) → x ≡ Text n → n ≤ length out
+inside b form t u buf out n x e p = subst (λ (y : Dumped). Inside (out, y)) p (dumped-inside b form t buf (u, (out, x)) e)

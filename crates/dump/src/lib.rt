@@ -1,12 +1,12 @@
 // The model text, from the bytes of a circuit: `dump_model` builds, and prints what the build left.
+use checks::sizes::counts_of;
 use circuit::Counts;
 use circuit::Refusal;
 use circuit::lists::input_starts;
-use circuit::sizes::counts_of;
+use printing::print_model;
 use qubot::Built;
 use qubot::Finished;
 use qubot::build;
-use text::model::print_model;
 use units::Form;
 ghost use mathlib.Core.List.{[], zip};
 ghost use mathlib.Core.Path.{_≡_};

@@ -14,8 +14,7 @@ use borrow.Author.Tests.{eq-eqb, ne-eqb}
 use Rattle.laws.specs.Test.{by-eqb, by-beq, ne-not, not-self}
 use Rattle.energy.specs.Circuit.{Constraint}
 use Rattle.energy.specs.Numbering.{Named, Numbering, rows}
-use Rattle.energy.specs.Model.{Model, fix}
-use Rattle.energy.specs.Fixing.{mark, Fixes, Within, SameAt, OneValue, Says, fix-fixed, placed-fixed}
+use Rattle.energy.specs.Fixing.{mark, Fixes, Within, SameAt, OneValue, Says, placed-fixed}
 use Rattle.energy.specs.Finished.{Room, Known, fixes, model, sized-model, fixes-within}
 
 -- no clash, or the place of the refusal
@@ -218,14 +217,6 @@ clash-table l fs w z = table-after l [] fs w holds
 
     holds : Holds l []
     holds q k b = rw (z q) (marked b)
-
--- ---- the build's own steps: the test before each fix reads the table that the fixes before it left
-
--- one step: the test, and the fix where it passes
-pub clash-step : (f : ℕ × Bool) (fs : Fixes) (m : Model)
-    → clashIn (m .fixed) (f ∷ fs) ≡ cond (eqb (getD (m .fixed) (f .0) 0) (mark (not (f .1)))) (at (f .0)) (clashIn (fix (f .0) (f .1) m .fixed) fs)
-unfolding clashIn
-clash-step f fs m = rw (fix-fixed (f .0) (f .1) m)
 
 -- Theorem: over the tables of the model before fixing, the build finds the clash of the fixes.
 pub clash-built : (n : ℕ) (d : Named) → Numbering d → Room n d → (cs : List Constraint) → Known (d .reached) cs

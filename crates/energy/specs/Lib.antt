@@ -17,3 +17,4 @@ pub mod Marks
 pub mod Rising
 pub mod Gone
 pub mod Count
+pub mod Once

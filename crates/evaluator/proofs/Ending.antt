@@ -20,14 +20,17 @@ use Rattle.numbering.specs.State.{State, qubitOf}
 use Rattle.pairs.specs.Store.{zip}
 use Rattle.store.specs.Tables.{Tables, tables, modelOf}
 use Rattle.evaluator.specs.declared.Run.{Run}
-use Rattle.evaluator.specs.declared.Stop.{Stop}
-use Rattle.evaluator.specs.declared.Went.{Went}
-use Rattle.evaluator.specs.Need.{Got, table, stopped, went, andThen, each, isTrue, needOf}
+use Rattle.values.specs.declared.Stop.{Stop}
+use Rattle.values.specs.declared.Went.{Went}
+use Rattle.values.specs.Need.{Got, table, stopped, went, andThen, each, isTrue, needOf}
 use Rattle.evaluator.specs.Give.{giveAll}
-use Rattle.evaluator.specs.Layout.{Laid, net}
-use Rattle.evaluator.specs.Code.{nameIn, trueFrom, isStop}
+use Rattle.rules.specs.Layout.{Laid}
+use Rattle.values.specs.Asking.{net}
+use Rattle.rules.specs.Code.{nameIn}
+use Rattle.values.specs.Code.{isStop}
+use Rattle.evaluator.specs.Code.{trueFrom}
 use Rattle.evaluator.specs.Ran.{Built, builtOf, netOf, refusalOf, refusal, answer, marked, keysOf, withHigher, badQubits, needed, trueNids, settingOf, Done, done, unknowns, finished, valued, within, beside, ran}
-use Rattle.evaluator.proofs.Cycle.{stop-now, go-on}
+use Rattle.values.proofs.Cycle.{stop-now, go-on}
 
 pub chain-stop : (w : Went) (u : List ℕ) {g : Got} (f : List ℕ → Got) → went w u ≡ g → isStop w ≡ true → went w u ≡ andThen g f
 chain-stop w u f e s = sym (stop-now w u u f s) ∙ ap (λ (z : Got). andThen z f) e

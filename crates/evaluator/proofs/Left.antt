@@ -17,13 +17,15 @@ use Rattle.circuit.specs.Meaning.{circuitOf}
 use Rattle.energy.specs.Circuit.{Bad}
 use Rattle.numbering.specs.State.{State, qubitOf}
 use Rattle.numbering.specs.Numbered.{badGates}
-use Rattle.evaluator.specs.declared.Went.{Went}
-use Rattle.evaluator.specs.Need.{Got, table, went, andThen, each, needOf}
+use Rattle.values.specs.declared.Went.{Went}
+use Rattle.values.specs.Need.{Got, table, went, andThen, each, needOf}
 use Rattle.evaluator.specs.Ran.{marked, badQubits}
-use Rattle.evaluator.specs.Layout.{Laid, Ready, net, Asked, NeedsAsked}
-use Rattle.evaluator.specs.Code.{nameIn, isStop}
-use Rattle.evaluator.proofs.Cycle.{stop-now, go-on}
-use Rattle.evaluator.proofs.Means.{bad-gate}
+use Rattle.rules.specs.Layout.{Laid}
+use Rattle.values.specs.Asking.{Ready, net, Asked, NeedsAsked}
+use Rattle.rules.specs.Code.{nameIn}
+use Rattle.values.specs.Code.{isStop}
+use Rattle.values.proofs.Cycle.{stop-now, go-on}
+use Rattle.values.proofs.Means.{bad-gate}
 
 pub record Left (b starts : List ℕ) (badFrom : ℕ) (s : State) (fixed t₀ all rest t : List ℕ) : Type 0 where
   pub asked : NeedsAsked b starts badFrom s fixed t₀

@@ -1,10 +1,5 @@
-pub mod Bools
-pub mod Listed
-pub mod Numbers
-pub mod Means
-pub mod Cycle
 pub mod Left
 pub mod Rows
-pub mod Giving
+pub mod Chain
 pub mod Trues
 pub mod Ending

@@ -11,8 +11,9 @@ use lib.ListN.{length, getD, take, drop, set, replicate, length-set, take-append
 use lib.Seq.{take-suc-set, drop-set-lt, drop-cons, length-take-le}
 use Rattle.circuit.specs.File.{field, nidAt}
 use Rattle.evaluator.specs.declared.answer.Listing.{Listing}
-use Rattle.evaluator.specs.Need.{isTrue}
-use Rattle.evaluator.specs.Code.{nameIn, trueFrom, listedAs, listedOf}
+use Rattle.values.specs.Need.{isTrue}
+use Rattle.rules.specs.Code.{nameIn}
+use Rattle.evaluator.specs.Code.{trueFrom, listedAs, listedOf}
 
 pub record Listed (b qs t : List ℕ) (from total : ℕ) (ns : List ℕ) (count i : ℕ) : Type 0 where
   pub within : i ≤ total

@@ -21,8 +21,8 @@ use Rattle.numbering.specs.Numbered.{badGates, roots, joinsOf, firstJoin, size}
 use Rattle.numbering.specs.Laws.{AllHave, Origin, Took, Placed, Taken, adder-took}
 use Rattle.numbering.specs.Finished as num
 use Rattle.numbering.specs.Finished.{Finished}
-use Rattle.evaluator.specs.Rules.{Law, resultLaw, carryLaw, auxLaw, joinLaw, lawOf, operands, depth}
-use Rattle.evaluator.specs.Layout.{AllLess, Formed}
+use Rattle.rules.specs.Rules.{Law, resultLaw, carryLaw, auxLaw, joinLaw, lawOf, operands, depth}
+use Rattle.rules.specs.Layout.{AllLess, Formed}
 
 -- a node takes at most three names
 size-three : (n : Node) → size n ≤ 3

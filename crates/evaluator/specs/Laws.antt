@@ -26,9 +26,9 @@ use Rattle.energy.specs.Model.{Entry, Model, low, high, gated, signed, linearBy
 use Rattle.energy.specs.Mass.{energy-size}
 use Rattle.energy.specs.Fixing.{complete}
 use Rattle.energy.specs.Finished.{Room, Known, model, finished, fixes, inForm, after-fixing, either-form}
-use Rattle.evaluator.specs.Need.{table, put, Net, fixedAt, step, needOf}
-use Rattle.evaluator.specs.Layout.{Formed}
-use Rattle.evaluator.specs.Fuel.{needOf-step}
+use Rattle.values.specs.Need.{table, put, Net, fixedAt, step, needOf}
+use Rattle.rules.specs.Layout.{Formed}
+use Rattle.values.specs.Fuel.{needOf-step}
 
 -- The energy of the finished model at the values found is, in either form, the energy before fixing at those values completed by the fixed ones.
 pub run-energy : (n : ℕ) (d : Named) → (num : Numbering d) (room : Room n d) (cs : List Constraint) (known : Known (d .reached) cs) (form : Form) (σ : Setting)

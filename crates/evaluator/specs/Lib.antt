@@ -1,11 +1,9 @@
-pub mod Rules
 pub mod Need
 pub mod Give
 pub mod Ran
 pub mod Samples
 pub mod Layout
 pub mod Code
-pub mod Fuel
 pub mod Laws
 pub mod Accepted
 pub mod Standing

@@ -16,13 +16,13 @@ use Rattle.numbering.specs.State.{State, qubitOf}
 use Rattle.numbering.specs.Numbered.{badGates}
 use Rattle.circuit.specs.Meaning.{circuitOf}
 use Rattle.store.specs.Tables.{Tables, modelOf}
-use Rattle.evaluator.specs.declared.Stop.{Stop}
-use Rattle.evaluator.specs.declared.Stop.the-variants as stop
+use Rattle.values.specs.declared.Stop.{Stop}
+use Rattle.values.specs.declared.Stop.the-variants as stop
 use Rattle.circuit.specs.declared.Refusal.{Refusal}
 use Rattle.circuit.specs.declared.Refusal.the-variants.{FewValues, OtherCount, NoQubit, NotUsedUp, DivisorZero, NotGiven}
 use Rattle.evaluator.specs.declared.Outcome.the-variants.{Ran, Refused}
 use Rattle.evaluator.specs.declared.Run.{Run}
-use Rattle.evaluator.specs.Need.{Got, table, stopped, andThen, each, isTrue, Net, needOf}
+use Rattle.values.specs.Need.{Got, table, stopped, andThen, each, isTrue, Net, needOf}
 use Rattle.evaluator.specs.Give.{giveAll}
 
 -- ---- the refusal that a stop is

@@ -1,7 +1,7 @@
--- 01's starred runs, and some of its rules of running, computed: the answer and every byte of the value table. Assumes nothing.
+-- Some of 01's rules of running, computed: the answer and every byte of the value table. The starred runs are in `runs/specs/Samples.antt`. Assumes nothing.
 use mathlib.Core.Path.{_≡_, refl}
-use mathlib.Core.Bool.{true, false}
-use mathlib.Core.List.{List, [], _∷_, _++_, map}
+use mathlib.Core.Bool.{true}
+use mathlib.Core.List.{List, [], _∷_, map}
 use Prim.Native.Nat.{ℕ}
 use lib.IntN.{ℤ, pos, negsuc}
 use lib.ListN.{replicate}
@@ -10,17 +10,17 @@ use Rattle.units.specs.declared.Form.{Form}
 use Rattle.units.specs.declared.Form.the-variants.{Binary, Ising}
 use Rattle.units.specs.Name.{gate, qubit}
 use Rattle.energy.specs.Plain.{wire}
-use Rattle.energy.specs.Circuit.{Circuit, Gate, ConstFalse, ConstTrue, InputBit, Not, And, Or, CarryHalfAdder, ResultHalfAdder, Quotient, Remainder}
+use Rattle.energy.specs.Circuit.{Circuit, Gate, InputBit, Not, And, Or, Quotient, Remainder}
 use Rattle.energy.specs.Numbering.{name}
-use Rattle.energy.specs.Model.{Model, empty, add, addLinear, addPair, place, placeAll, give, without, fix, ends, ising, linearBy, pairsBy, energyBy}
+use Rattle.energy.specs.Model.{empty, add, addLinear, addPair, place, placeAll, give, without, fix, ends, ising, linearBy, pairsBy, energyBy}
 use Rattle.energy.specs.Fixing.{fixAll}
 use Rattle.energy.specs.Finished.{finished, inForm}
-use Rattle.numbering.specs.State.{State, mk, namesOf, start}
+use Rattle.numbering.specs.State.{namesOf, start}
 use Rattle.numbering.specs.Visit.{oneName, threeNames, take, each as visitEach, process, step as visitStep, visit, visitOf}
 use Rattle.numbering.specs.Numbered.{Outcome, refused, numbered, number, visitRoots, joinNames, resultsFrom, sharersFrom, namedOf}
-use Rattle.circuit.specs.declared.Refusal.the-variants.{FewValues, OtherCount, NoQubit, NotUsedUp, DivisorZero, NotGiven}
-use Rattle.evaluator.specs.Rules.{lawOf, depth}
-use Rattle.evaluator.specs.Need.{each, number as numberIn, settle, follow, step, need, needOf}
+use Rattle.circuit.specs.declared.Refusal.the-variants.{FewValues, OtherCount, NoQubit, DivisorZero, NotGiven}
+use Rattle.rules.specs.Rules.{lawOf, depth}
+use Rattle.values.specs.Need.{each, number as numberIn, settle, follow, step, need, needOf}
 use Rattle.evaluator.specs.Give.{giveBits, giveAll}
 use Rattle.evaluator.specs.Ran.{Built, Done, done, refusal, answer, marked, keysOf, higher, withHigher, trueNids, valued, within, ran}
 
@@ -47,16 +47,7 @@ P =
 abbrev runP : Form → ℤ → Done
 runP form v = run form P (v ∷ []) (7 ∷ 7 ∷ 7 ∷ 7 ∷ 7 ∷ [])
 
--- "P, value 3: energy 0. Value 1: energy 2. Value -1: energy 6. All list 30, as qubit 4 is fixed. P, value 4, and value -4: 13, place 0." (Counts of halves.)
-pub starred : (runP Binary (pos 3) ≡ done (answer Binary (pos 0) (30 ∷ [])) (2 ∷ 2 ∷ 1 ∷ 1 ∷ 1 ∷ []))
-    × (runP Binary (pos 1) ≡ done (answer Binary (pos 4) (30 ∷ [])) (2 ∷ 2 ∷ 1 ∷ 0 ∷ 1 ∷ []))
-    × (runP Binary (negsuc 0) ≡ done (answer Binary (pos 12) (30 ∷ [])) (2 ∷ 2 ∷ 0 ∷ 0 ∷ 1 ∷ []))
-    × (runP Binary (pos 4) ≡ done (refusal (NotUsedUp (record { 0 = 0 }))) (2 ∷ 2 ∷ 2 ∷ 2 ∷ 2 ∷ []))
-    × (runP Binary (negsuc 3) ≡ done (refusal (NotUsedUp (record { 0 = 0 }))) (2 ∷ 2 ∷ 2 ∷ 2 ∷ 2 ∷ []))
-unfolding P start number visitRoots joinNames oneName threeNames take visitEach process visitStep visit visitOf resultsFrom sharersFrom name wire add addLinear addPair place placeAll give without fix fixAll linearBy pairsBy energyBy lawOf depth each numberIn settle follow step need needOf giveBits giveAll marked keysOf higher withHigher trueNids valued within ran rowOf rows
-starred = (refl, refl, refl, refl, refl)
-
--- the same in the Ising form
+-- 3, 1 and -1 in the Ising form: the energies of the 0/1 form (counts of halves)
 P-ising : (runP Ising (pos 3) ≡ done (answer Ising (pos 0) (30 ∷ [])) (2 ∷ 2 ∷ 1 ∷ 1 ∷ 1 ∷ []))
     × (runP Ising (pos 1) ≡ done (answer Ising (pos 4) (30 ∷ [])) (2 ∷ 2 ∷ 1 ∷ 0 ∷ 1 ∷ []))
     × (runP Ising (negsuc 0) ≡ done (answer Ising (pos 12) (30 ∷ [])) (2 ∷ 2 ∷ 0 ∷ 0 ∷ 1 ∷ []))

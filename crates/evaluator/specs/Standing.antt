@@ -24,7 +24,8 @@ use Rattle.circuit.specs.Accepted.{Sound, gate-at, gate-count, bad-count, input
 use Rattle.numbering.specs.Read.{actOf}
 use Rattle.numbering.specs.Read as read
 use Rattle.numbering.specs.Bytes.{prepared}
-use Rattle.evaluator.specs.Layout.{named, isDivision, Laid, InputsLaid}
+use Rattle.rules.specs.Layout.{named, isDivision, Laid}
+use Rattle.evaluator.specs.Layout.{InputsLaid}
 
 -- the gates of some records, one by one
 named-range : (b : List ℕ) (n m : ℕ) → map (λ (r : ℕ). field b r 1) (range n m) ≡ named b n m

@@ -1,30 +1,32 @@
 // A run: values, energy, the true bad states, the verdict; or the refusal.
 use crate::Outcome;
 use crate::Run;
-use crate::Stop;
-use crate::Went;
-use crate::give::give_all;
 use crate::needs::need_all;
-use crate::rules::qubit_of;
-use crate::settle::truth;
-use crate::walk::stops;
 use circuit::Refusal;
 use circuit::records::field_at;
 use circuit::records::nid_at;
+use giving::give_all;
+use rules::find::qubit_of;
 use store::Totals;
 use store::evaluate::energy_at;
 use units::Form;
 use units::is_hit;
+use values::Stop;
+use values::Went;
+use values::settle::truth;
+use values::walk::stops;
 ghost use mathlib.Core.Path.{_≡_};
 ghost use mathlib.Core.List.{List, _++_};
 ghost use Prim.Native.Nat.{ℕ, _+_, _*_, _-_, _≤_, _<_};
 ghost use lib.ListN.{length, getD, take, replicate};
 ghost use Rattle.circuit.specs.Meaning.{circuitOf};
 ghost use Rattle.numbering.specs.State.{mk};
-ghost use Rattle.evaluator.specs.Need.{went, andThen, each, needOf};
+ghost use Rattle.values.specs.Need.{went, andThen, each, needOf};
 ghost use Rattle.evaluator.specs.Ran.{builtOf, refusalOf, done, refusal, answer, settingOf, trueNids, marked, withHigher, badQubits, finished, within, ran};
-ghost use Rattle.evaluator.specs.Code.{listedOf, trueFrom, InputsAsked};
-ghost use Rattle.evaluator.specs.Layout.{RunReady, net, NeedsAsked, Flags, Stacked};
+ghost use Rattle.giving.specs.Asked.{InputsAsked};
+ghost use Rattle.evaluator.specs.Code.{listedOf, trueFrom};
+ghost use Rattle.values.specs.Asking.{net, NeedsAsked};
+ghost use Rattle.evaluator.specs.Layout.{RunReady, Flags, Stacked};
 ghost use Rattle.evaluator.specs.Give.{giveAll};
 ghost use Rattle.energy.specs.Model.{energyIn};
 ghost use Rattle.store.specs.Tables.{tables, modelOf};
@@ -154,7 +156,7 @@ fn answer_at(
 }
 
 // A refused run.
-fn refused(x: Refusal) -> Run
+pub fn refused(x: Refusal) -> Run
     ensures { λ r. ⌜ r ≡ refusal x ⌝ }
 {
     Run {

@@ -1,19 +1,20 @@
 // What a run needs, in order: linear entries by name; rows by name, each with its higher neighbours by name; bad states.
-use crate::Went;
-use crate::rules::qubit_of;
-use crate::walk::need;
-use crate::walk::stops;
 use circuit::records::field_at;
+use rules::find::qubit_of;
 use units::Qubit;
+use values::Went;
+use values::walk::need;
+use values::walk::stops;
 ghost use mathlib.Core.Path.{_≡_};
 ghost use mathlib.Core.List.{_++_};
 ghost use Prim.Native.Nat.{_≤_, _<_};
 ghost use lib.ListN.{length, take};
 ghost use Rattle.numbering.specs.State.{mk};
 ghost use Rattle.circuit.specs.Meaning.{circuitOf};
-ghost use Rattle.evaluator.specs.Need.{went, each, needOf};
+ghost use Rattle.values.specs.Need.{went, each, needOf};
 ghost use Rattle.evaluator.specs.Ran.{marked, withHigher, badQubits};
-ghost use Rattle.evaluator.specs.Layout.{net, NeedsAsked, Flags, Stacked};
+ghost use Rattle.values.specs.Asking.{net, NeedsAsked};
+ghost use Rattle.evaluator.specs.Layout.{Flags, Stacked};
 ghost use Rattle.evaluator.specs.Code.{rowNext, nextOf};
 
 // The next row and the next pair of a walk over the rows.

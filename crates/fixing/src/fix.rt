@@ -77,7 +77,7 @@ fn take_out(
 }
 
 // Deletes the linear entry of `q`, and returns it times the value.
-fn clear_linear(linear: &mut [i64], present: &mut [u8], q: usize, on: bool) -> i64
+pub fn clear_linear(linear: &mut [i64], present: &mut [u8], q: usize, on: bool) -> i64
     requires { ⌜ (q < length (now linear)) × (q < length (now present)) ⌝ }
     ensures { λ r. ⌜ r ≡ gated on (getD (now (linear .entry)) q (pos 0)) ⌝ }
     ensures { λ _. ⌜ now (linear .exit) ≡ set (now (linear .entry)) q (pos 0) ⌝ }
@@ -93,7 +93,7 @@ fn clear_linear(linear: &mut [i64], present: &mut [u8], q: usize, on: bool) -> i
 }
 
 // What `fixed` holds for a value.
-fn mark_of(on: bool) -> u8
+pub fn mark_of(on: bool) -> u8
     ensures { λ r. ⌜ r ≡ cond on 2 1 ⌝ }
 {
     if on { 2 } else { 1 }

@@ -1,28 +1,11 @@
 // The two model programs, but for the form: a circuit from standard input, and its model's text, or its refusal, to standard output.
 use circuit::Refusal;
-use circuit::answers::number_of;
-use circuit::answers::place_of;
 use dump::Dumped;
 use dump::dump_model;
 use libc::STDIN_FILENO;
-use libc::STDOUT_FILENO;
+use output::write_front;
+use output::write_refusal;
 use units::Form;
-
-// The line of a refusal.
-fn print_refusal(r: Refusal) {
-    io::write_all(STDOUT_FILENO, b"refused ");
-    io::print_decimal(STDOUT_FILENO, number_of(r) as u64);
-    io::write_all(STDOUT_FILENO, b" ");
-    io::print_decimal(STDOUT_FILENO, place_of(r) as u64);
-    io::write_all(STDOUT_FILENO, b"\n");
-}
-
-// The first n bytes of a buffer.
-fn write_front(text: &[u8], n: usize) {
-    if n <= text.len() {
-        io::write_all(STDOUT_FILENO, &text[..n]);
-    }
-}
 
 // The model of a circuit of at most 4,096 bytes, by way of a buffer. It has at most 255 gates beside a bad state, so these tables always have room.
 fn print_model(circuit: &[u8], form: Form, text: &mut [u8]) {
@@ -50,7 +33,7 @@ fn print_model(circuit: &[u8], form: Form, text: &mut [u8]) {
         text,
     );
     match dumped {
-        Dumped::Refused(r) => print_refusal(r),
+        Dumped::Refused(r) => write_refusal(r),
         Dumped::Text(n) => write_front(text, n),
     }
 }
@@ -60,7 +43,7 @@ pub fn print_from_input(form: Form) {
     let mut input = [0u8; 4097];
     let n = io::read_full(STDIN_FILENO, &mut input);
     if n > 4096 {
-        print_refusal(Refusal::TooMany);
+        write_refusal(Refusal::TooMany);
         return;
     }
     let mut text = io::large_buffer();

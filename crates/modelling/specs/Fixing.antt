@@ -1,4 +1,4 @@
--- Fixing, one fix after the other: which qubit the k-th fix is of, what the code reads of it, and the laws of the loop.
+-- Fixing: which qubit the k-th fix is of, what the code reads of it, and how the values that are entered one after the other and the pass over the pairs make the model of all fixes.
 -- Assumes nothing.
 use mathlib.Core.Path.{_≡_, refl, sym, ap, _∙_, subst}
 use mathlib.Core.Bool.{Bool, true, false, not, cond}
@@ -8,19 +8,20 @@ use native.Mathlib.Numerals.{add-one}
 use native.Mathlib.Omega.{arith}
 use lib.Dec.{eqb, ltb}
 use lib.IntN.{ℤ, pos}
-use lib.ListN.{length, getD, take, drop, replicate, length-map, drop-of-length-le}
+use lib.ListN.{length, getD, set, take, drop, replicate, length-map, drop-of-length-le}
 use lib.Seq.{drop-cons, take-suc, take-length}
 use borrow.Author.Tests.{lt-ltb, le-ltb}
 use Rattle.units.specs.declared.Qubit.{Qubit}
 use Rattle.energy.specs.Circuit.{Circuit, Bad, Constraint}
 use Rattle.energy.specs.Model.{Entry, Model, Sized, empty, touches, add, without, fix, placeAll, mass}
-use Rattle.energy.specs.Fixing.{mark, Fixes, Within, fixAll, sized-fixAll, fix-pairs, placed-fixed}
-use Rattle.energy.specs.Clash.{Clash, none, at, clash, clashIn, clash-step, clash-table}
+use Rattle.energy.specs.Fixing.{mark, Fixes, Within, fixAll, fix-pairs, placed-fixed}
+use Rattle.energy.specs.Clash.{Clash, none, at, clash, clashIn, clash-table, clash-none}
+use Rattle.energy.specs.Once.{enter, enterAll, sifted, enterAll-pairs, sized-enterAll, mass-enterAll, once-fixAll}
 use Rattle.energy.specs.Finished.{forced, fixes, fixes-within, sized-model}
 use Rattle.energy.specs.Finished as energy
 use Rattle.energy.specs.Mass.{mass-fix, mass-placeAll, mass-empty}
 use Rattle.energy.specs.Numbering.{Named}
-use Rattle.pairs.specs.Store.{canonical}
+use Rattle.pairs.specs.Store.{zip, front, canonical}
 use Rattle.circuit.specs.File.{field, byte1}
 use Rattle.circuit.specs.Meaning.{constraintAt, circuitOf}
 use Rattle.numbering.specs.State.{State, mk, slot, qubitOf, namesOf}
@@ -28,16 +29,17 @@ use Rattle.numbering.specs.Numbered.{badGates, namedOf, rowsOf}
 use Rattle.numbering.specs.Finished.{numbering, constraints-in}
 use Rattle.store.specs.declared.Totals.{Totals}
 use Rattle.store.specs.Tables.{Tables, tables, modelOf, hold, Ready}
+use Rattle.sifting.specs.Sifting.{modelBy, MayEnter, Sifting, sifting}
 use Rattle.qubo.specs.Logged.{loggedAll, settled, settled-loggedAll}
 use Rattle.modelling.specs.declared.Fix.{Fix}
 use Rattle.modelling.specs.declared.Fixed.{Fixed}
 use Rattle.modelling.specs.declared.Fixed.the-variants.{Done, Clash as Clashes}
 use Rattle.modelling.specs.Steps.{joinedQubit, fixesOf, placedOf}
 use Rattle.modelling.specs.Demand.{fixes-are, placed-is, known-of}
-use Rattle.modelling.specs.Laid.{Laid, Good, noConstraint}
-use Rattle.modelling.specs.Rowed.{Has, fin, bad-has, bad-qubit, have-past, inside}
-use Rattle.modelling.specs.Full.{full, model-full, step-full, length-front}
-use Rattle.modelling.specs.Blank.{pairsOf, names-small}
+use Rattle.placing.specs.Laid.{Laid, Good, noConstraint}
+use Rattle.placing.specs.Rowed.{Has, fin, bad-has, bad-qubit, have-past, inside}
+use Rattle.placing.specs.Full.{full, step-full, length-front}
+use Rattle.placing.specs.Blank.{pairsOf, names-small}
 
 -- the tables hold the model m, with pair tables of k entries
 pub record Holds (k : ℕ) (m : Model) (t : Totals) (l : List ℤ) (h r f ks : List ℕ) (ws : List ℤ) : Type 0 where
@@ -164,17 +166,12 @@ unfolding fixAll
 fixAll-mass [] m = omega arith
 fixAll-mass (f ∷ fs) m = omega (arith, fixAll-mass fs (fix (f .0) (f .1) m), mass-fix (f .0) (f .1) m)
 
-fixAll-snoc : (fs : Fixes) (f : ℕ × Bool) (m : Model) → fixAll (fs ++ f ∷ []) m ≡ fix (f .0) (f .1) (fixAll fs m)
-unfolding fixAll
-fixAll-snoc [] f m = refl
-fixAll-snoc (g ∷ fs) f m = fixAll-snoc fs f (fix (g .0) (g .1) m)
-
 within-at : (n : ℕ) (fs : Fixes) (k : ℕ) → k < length fs → Within n fs → getD fs k nothing .0 < n
 within-at n [] k h w = absurd (omega arith)
 within-at n (f ∷ fs) zero h w = w .0
 within-at n (f ∷ fs) (suc k) h w = within-at n fs k (omega arith) (w .1)
 
--- ---- the loop
+-- ---- what fixing asks, and how it ends
 
 -- what fixing asks of the model before it: n qubits and k pairs, nothing fixed, and no large number
 pub record Fixable (n k : ℕ) (fs : Fixes) (m : Model) : Type 0 where
@@ -189,105 +186,189 @@ abbrev pub FixedAs : ℕ → Fixes → Model → Fixed → List ℤ → List ℕ
 FixedAs k fs m (Done t) l h r f ks ws = (clash fs ≡ none) × Holds k (fixAll fs m) t l h r f ks ws
 FixedAs k fs m (Clashes q) l h r f ks ws = clash fs ≡ at (q .0)
 
--- the first j fixes are made, without a clash
-pub record Made (k : ℕ) (fs : Fixes) (m : Model) (j : ℕ) (t : Totals) (l : List ℤ) (h r f ks : List ℕ) (ws : List ℤ) : Type 0 where
+-- ---- entering the values
+
+-- what entering asks of the model without its pairs
+pub record Enterable (n : ℕ) (fs : Fixes) (m : Model) : Type 0 where
+  pub within : Within n fs
+  pub sized : Sized n m
+  pub small : mass m ≤ 2 ^ 40
+  pub unfixed : (q : ℕ) → getD (m .fixed) q 0 ≡ 0
+
+-- the values of these fixes are entered, whatever the pairs
+pub record Entered (fs : Fixes) (from : Totals) (l₀ : List ℤ) (h₀ r₀ f₀ : List ℕ) (t : Totals) (l : List ℤ) (h r f : List ℕ) : Type 0 where
+  pub count : t .count ≡ from .count
+  pub is : (s : List Entry) → modelBy (t .offset) l h r f s ≡ enterAll fs (modelBy (from .offset) l₀ h₀ r₀ f₀ s)
+
+-- how entering ends: with the first clash, or with all values entered
+abbrev pub EnteredAs : Fixes → Totals → List ℤ → List ℕ → List ℕ → List ℕ → Fixed → List ℤ → List ℕ → List ℕ → List ℕ → Type 0
+EnteredAs fs from l₀ h₀ r₀ f₀ (Done t) l h r f = (clash fs ≡ none) × Entered fs from l₀ h₀ r₀ f₀ t l h r f
+EnteredAs fs from l₀ h₀ r₀ f₀ (Clashes q) l h r f = clash fs ≡ at (q .0)
+
+-- by the answer that was found
+pub ended : (fs : Fixes) (from : Totals) (l₀ : List ℤ) (h₀ r₀ f₀ : List ℕ) {x y : Fixed} (l : List ℤ) (h r f : List ℕ) → x ≡ y
+    → EnteredAs fs from l₀ h₀ r₀ f₀ x l h r f → EnteredAs fs from l₀ h₀ r₀ f₀ y l h r f
+ended fs from l₀ h₀ r₀ f₀ l h r f e = subst (λ (x : Fixed). EnteredAs fs from l₀ h₀ r₀ f₀ x l h r f) e
+
+-- before a turn of the loop: the first j are entered, without a clash
+pub record Entering (fs : Fixes) (j : ℕ) (from : Totals) (l₀ : List ℤ) (h₀ r₀ f₀ : List ℕ) (t : Totals) (l : List ℤ) (h r f : List ℕ) : Type 0 where
   pub within : j ≤ length fs
-  pub left : clashIn (fixAll (take j fs) m .fixed) (drop j fs) ≡ clash fs
-  pub holds : Holds k (fixAll (take j fs) m) t l h r f ks ws
+  pub left : clashIn f (drop j fs) ≡ clash fs
+  pub entered : Entered (take j fs) from l₀ h₀ r₀ f₀ t l h r f
 
 other-mark : (b : Bool) → cond b 1 2 ≡ mark (not b)
 other-mark true = refl
 other-mark false = refl
 
-module _ {n k : ℕ} {fs : Fixes} {m : Model} (fixable : Fixable n k fs m) where
-  pub none-made : {t : Totals} {l : List ℤ} {h r f ks : List ℕ} {ws : List ℤ} → Holds k m t l h r f ks ws → Made k fs m 0 t l h r f ks ws
-  unfolding fixAll
-  none-made e =
+-- the test before a value is entered
+test-step : (x : ℕ × Bool) (fs : Fixes) (f : List ℕ)
+    → clashIn f (x ∷ fs) ≡ cond (eqb (getD f (x .0) 0) (cond (x .1) 1 2)) (at (x .0)) (clashIn (set f (x .0) (mark (x .1))) fs)
+unfolding clashIn
+test-step x fs f = ap (λ (y : ℕ). cond (eqb (getD f (x .0) 0) y) (at (x .0)) (clashIn (set f (x .0) (mark (x .1))) fs)) (sym (other-mark (x .1)))
+
+enterAll-snoc : (fs : Fixes) (f : ℕ × Bool) (m : Model) → enterAll (fs ++ f ∷ []) m ≡ enter (f .0) (f .1) (enterAll fs m)
+unfolding enterAll
+enterAll-snoc [] f m = refl
+enterAll-snoc (g ∷ fs) f m = enterAll-snoc fs f (enter (g .0) (g .1) m)
+
+module _ {n : ℕ} {fs : Fixes} {from : Totals} {l₀ : List ℤ} {h₀ r₀ f₀ : List ℕ} (enterable : Enterable n fs (modelBy (from .offset) l₀ h₀ r₀ f₀ [])) where
+  pub none-entered : Entering fs 0 from l₀ h₀ r₀ f₀ from l₀ h₀ r₀ f₀
+  unfolding enterAll
+  none-entered =
       record {
         within = omega arith;
-        left = clash-table (m .fixed) fs (rw (fixable .sized .fixed) (fixable .within)) (fixable .unfixed);
-        holds = e;
+        left = clash-table f₀ fs (rw (enterable .sized .fixed) (enterable .within)) (enterable .unfixed);
+        entered = record { count = refl; is = λ s. refl };
       }
 
-  module _ {j : ℕ} {t : Totals} {l : List ℤ} {h r f ks : List ℕ} {ws : List ℤ} (made : Made k fs m j t l h r f ks ws) where
+  module _ {j : ℕ} {t : Totals} {l : List ℤ} {h r f : List ℕ} (entering : Entering fs j from l₀ h₀ r₀ f₀ t l h r f) where
     abbrev now-model : Model
-    now-model = fixAll (take j fs) m
+    now-model = modelBy (t .offset) l h r f []
 
-    model-is : modelOf (tables (t .offset) l h r f ks ws (t .count)) ≡ now-model
-    model-is = ap modelOf (made .holds .is) ∙ model-full k now-model
+    pub sized-now : Sized n now-model
+    sized-now = rw (entering .entered .is []) (sized-enterAll n (take j fs) (modelBy (from .offset) l₀ h₀ r₀ f₀ []) (enterable .sized))
 
-    room-now : length (now-model .pairs) ≤ k
-    room-now = omega (arith, fixAll-length (take j fs) m, fixable .room)
-
-    sized-now : Sized n now-model
-    sized-now = sized-fixAll n (take j fs) m (fixable .sized)
-
-    pub linear-long : length l ≡ n
-    linear-long = ap (λ (x : Tables). length (x .linear)) (made .holds .is) ∙ sized-now .linear
-
-    pub fixed-long : length f ≡ n
-    fixed-long = ap (λ (x : Tables). length (x .fixed)) (made .holds .is) ∙ sized-now .fixed
-
-    pub ready : Ready (length l) ks ws (tables (t .offset) l h r f ks ws (t .count))
-    ready =
-        record {
-          even = made .holds .weights ∙ sym (made .holds .keys);
-          used = omega (arith, ap (λ (x : Tables). x .count) (made .holds .is), room-now, made .holds .keys);
-          sized = rw (linear-long, model-is) sized-now;
-          small = rw model-is (omega (arith, fixAll-mass (take j fs) m, fixable .small));
-        }
+    mass-now : mass now-model ≤ 2 ^ 40
+    mass-now = omega (arith, ap mass (entering .entered .is []), mass-enterAll (take j fs) (modelBy (from .offset) l₀ h₀ r₀ f₀ []), enterable .small)
 
     module _ (more : j < length fs) {x : ℕ × Bool} (e : x ≡ getD fs j nothing) where
-      pub in-tables : x .0 < length l
-      in-tables = rw (linear-long, e) (within-at n fs j more (fixable .within))
+      below : x .0 < n
+      below = rw e (within-at n fs j more (enterable .within))
 
       pub in-fixed : x .0 < length f
-      in-fixed = omega (arith, in-tables, linear-long, fixed-long)
+      in-fixed = omega (arith, below, sized-now .fixed)
 
-      rest : drop j fs ≡ x ∷ drop (suc j) fs
-      rest = drop-cons fs j nothing more ∙ ap (λ (y : ℕ × Bool). y ∷ drop (suc j) fs) (sym e)
+      pub may-enter : MayEnter (x .0) t l h r f
+      unfolding mass
+      may-enter =
+          record {
+            linear = omega (arith, below, sized-now .linear);
+            present = omega (arith, below, sized-now .hasLinear);
+            row = omega (arith, below, sized-now .hasRow);
+            fixed = in-fixed;
+            small = omega (arith, mass-now);
+          }
 
-      test : clash fs ≡ cond (eqb (getD f (x .0) 0) (cond (x .1) 1 2)) (at (x .0)) (clashIn (fix (x .0) (x .1) now-model .fixed) (drop (suc j) fs))
+      test : clash fs ≡ cond (eqb (getD f (x .0) 0) (cond (x .1) 1 2)) (at (x .0)) (clashIn (set f (x .0) (mark (x .1))) (drop (suc j) fs))
       test =
-          sym (made .left)
-          ∙ ap (clashIn (now-model .fixed)) rest
-          ∙ clash-step x (drop (suc j) fs) now-model
-          ∙ ap (λ (y : List ℕ). cond (eqb (getD y (x .0) 0) (mark (not (x .1)))) (at (x .0)) (clashIn (fix (x .0) (x .1) now-model .fixed) (drop (suc j) fs))) (sym (ap (λ (y : Tables). y .fixed) (made .holds .is)))
-          ∙ ap (λ (y : ℕ). cond (eqb (getD f (x .0) 0) y) (at (x .0)) (clashIn (fix (x .0) (x .1) now-model .fixed) (drop (suc j) fs))) (sym (other-mark (x .1)))
+          sym (entering .left)
+          ∙ ap (clashIn f) (drop-cons fs j nothing more ∙ ap (λ (y : ℕ × Bool). y ∷ drop (suc j) fs) (sym e))
+          ∙ test-step x (drop (suc j) fs) f
 
       pub stops : eqb (getD f (x .0) 0) (cond (x .1) 1 2) ≡ true → clash fs ≡ at (x .0)
       stops h = test ∙ rw h
 
-      after : fixAll (take (suc j) fs) m ≡ fix (x .0) (x .1) now-model
-      after =
-          ap (λ (ys : Fixes). fixAll ys m) (take-suc fs j nothing more ∙ ap (λ (y : ℕ × Bool). take j fs ++ y ∷ []) (sym e))
-          ∙ fixAll-snoc (take j fs) x m
-
       pub goes-on : eqb (getD f (x .0) 0) (cond (x .1) 1 2) ≡ false
-          → {u : Totals} {l′ : List ℤ} {h′ r′ f′ ks′ : List ℕ} {ws′ : List ℤ} → length ks′ ≡ length ks → length ws′ ≡ length ws
-          → tables (u .offset) l′ h′ r′ f′ ks′ ws′ (u .count)
-          ≡ hold (fix (x .0) (x .1) (modelOf (tables (t .offset) l h r f ks ws (t .count)))) (tables (t .offset) l h r f ks ws (t .count))
-          → Made k fs m (j + 1) u l′ h′ r′ f′ ks′ ws′
-      goes-on clear lk lw step =
+          → {u : Totals} {l′ : List ℤ} {h′ r′ f′ : List ℕ} → u .count ≡ t .count
+          → ((s : List Entry) → modelBy (u .offset) l′ h′ r′ f′ s ≡ enter (x .0) (x .1) (modelBy (t .offset) l h r f s))
+          → Entering fs (j + 1) from l₀ h₀ r₀ f₀ u l′ h′ r′ f′
+      goes-on clear {u} {l′} {h′} {r′} {f′} ec step =
           rw add-one
           (record {
             within = more;
-            left = ap (λ (y : Model). clashIn (y .fixed) (drop (suc j) fs)) after ∙ sym (test ∙ rw clear);
-            holds =
+            left = ap (λ (y : Model). clashIn (y .fixed) (drop (suc j) fs)) (step []) ∙ sym (test ∙ rw clear);
+            entered =
                 record {
-                  keys = lk ∙ made .holds .keys;
-                  weights = lw ∙ made .holds .weights;
-                  is =
-                      step-full k now-model (fix (x .0) (x .1)) (made .holds .is) step room-now (omega (arith, fix-length (x .0) (x .1) now-model, room-now))
-                      ∙ ap (full k) (sym after);
+                  count = ec ∙ entering .entered .count;
+                  is = λ s.
+                      step s
+                      ∙ ap (enter (x .0) (x .1)) (entering .entered .is s)
+                      ∙ sym (enterAll-snoc (take j fs) x (modelBy (from .offset) l₀ h₀ r₀ f₀ s))
+                      ∙ ap (λ (ys : Fixes). enterAll ys (modelBy (from .offset) l₀ h₀ r₀ f₀ s)) (ap (λ (y : ℕ × Bool). take j fs ++ y ∷ []) e ∙ sym (take-suc fs j nothing more));
                 };
           })
 
-    pub all-made : length fs ≤ j → (clash fs ≡ none) × Holds k (fixAll fs m) t l h r f ks ws
+    pub all-entered : length fs ≤ j → (clash fs ≡ none) × Entered fs from l₀ h₀ r₀ f₀ t l h r f
     unfolding clashIn
-    all-made done =
-        let e : j ≡ length fs = omega (arith, made .within) in
+    all-entered done =
+        let e : j ≡ length fs = omega (arith, entering .within) in
         let d : drop j fs ≡ [] = drop-of-length-le fs done in (
-          sym (made .left) ∙ ap (clashIn (now-model .fixed)) d,
-          subst (λ (ys : Fixes). Holds k (fixAll ys m) t l h r f ks ws) (ap (λ (i : ℕ). take i fs) e ∙ take-length fs) (made .holds),
+          sym (entering .left) ∙ ap (clashIn f) d,
+          subst (λ (ys : Fixes). Entered ys from l₀ h₀ r₀ f₀ t l h r f) (ap (λ (i : ℕ). take i fs) e ∙ take-length fs) (entering .entered),
         )
+
+-- ---- and then the pass over the pairs
+
+module _ {n k : ℕ} {fs : Fixes} (from : Totals) (l₀ : List ℤ) (h₀ r₀ f₀ ks : List ℕ) (ws : List ℤ) (fixable : Fixable n k fs (modelOf (tables (from .offset) l₀ h₀ r₀ f₀ ks ws (from .count)))) where
+  abbrev m₀ : Model
+  m₀ = modelOf (tables (from .offset) l₀ h₀ r₀ f₀ ks ws (from .count))
+
+  pub enterable : Enterable n fs (modelBy (from .offset) l₀ h₀ r₀ f₀ [])
+  unfolding mass
+  enterable =
+      let z = fixable .sized in
+      record {
+        within = fixable .within;
+        sized = record { linear = z .linear; hasLinear = z .hasLinear; hasRow = z .hasRow; fixed = z .fixed; inside = tt; names = z .names };
+        small = omega (arith, fixable .small);
+        unfixed = fixable .unfixed;
+      }
+
+  module _ (holds : Holds k m₀ from l₀ h₀ r₀ f₀ ks ws) {t : Totals} {l : List ℤ} {h r f : List ℕ} (entered : Entered fs from l₀ h₀ r₀ f₀ t l h r f) where
+    abbrev m₁ : Model
+    m₁ = enterAll fs m₀
+
+    model-is : modelOf (tables (t .offset) l h r f ks ws (t .count)) ≡ m₁
+    model-is = ap (λ (c : ℕ). modelOf (tables (t .offset) l h r f ks ws c)) (entered .count) ∙ entered .is (take (from .count) (zip ks ws))
+
+    room : length (m₁ .pairs) ≤ k
+    room = omega (arith, ap length (enterAll-pairs fs m₀), fixable .room)
+
+    tables-are : tables (t .offset) l h r f ks ws (t .count) ≡ full k m₁
+    tables-are i =
+        let m = (entered .is (take (from .count) (zip ks ws))) i in
+        record {
+          offset = m .offset;
+          linear = m .linear;
+          hasLinear = m .hasLinear;
+          hasRow = m .hasRow;
+          fixed = m .fixed;
+          entries = (ap (λ (x : Tables). x .entries) (holds .is) ∙ ap (λ (s : List Entry). front s k) (sym (enterAll-pairs fs m₀))) i;
+          count = (entered .count ∙ ap (λ (x : Tables). x .count) (holds .is) ∙ ap length (sym (enterAll-pairs fs m₀))) i;
+        }
+
+    pub siftable : Sifting f l h ks ws t
+    siftable =
+        let ready : Ready n ks ws (tables (t .offset) l h r f ks ws (t .count)) =
+        record {
+          even = holds .weights ∙ sym (holds .keys);
+          used = omega (arith, entered .count, ap (λ (x : Tables). x .count) (holds .is), fixable .room, holds .keys);
+          sized = rw model-is (sized-enterAll n fs m₀ (fixable .sized));
+          small = rw model-is (omega (arith, mass-enterAll fs m₀, fixable .small));
+        } in
+        sifting t ready
+
+    pub all-fixed : clash fs ≡ none → {u : Totals} {l′ : List ℤ} {h′ ks′ : List ℕ} {ws′ : List ℤ} → length ks′ ≡ length ks → length ws′ ≡ length ws
+        → ((rs : List ℕ)
+        → tables (u .offset) l′ h′ rs f ks′ ws′ (u .count)
+        ≡ hold (sifted (modelOf (tables (t .offset) l h rs f ks ws (t .count)))) (tables (t .offset) l h rs f ks ws (t .count)))
+        → Holds k (fixAll fs m₀) u l′ h′ r f ks′ ws′
+    all-fixed clear lk lw step =
+        let e : fixAll fs m₀ ≡ sifted m₁ = once-fixAll n fs m₀ (fixable .sized) (fixable .within) (clash-none fs clear) (fixable .unfixed) in
+        record {
+          keys = lk ∙ holds .keys;
+          weights = lw ∙ holds .weights;
+          is =
+              step-full k m₁ sifted tables-are (step r) room (omega (arith, ap (λ (m : Model). length (m .pairs)) e, fixAll-length fs m₀, fixable .room))
+              ∙ ap (full k) (sym e);
+        }

@@ -1,11 +1,4 @@
 pub mod Steps
-pub mod Few
-pub mod Laid
-pub mod Found
-pub mod Rowed
-pub mod Full
-pub mod Logs
-pub mod Blank
 pub mod Demand
 pub mod Fixing
 pub mod Modelled

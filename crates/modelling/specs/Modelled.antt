@@ -36,11 +36,11 @@ use Rattle.modelling.specs.declared.Modelled.{Modelled}
 use Rattle.modelling.specs.declared.Modelled.the-variants.{Model as Made, Refused}
 use Rattle.modelling.specs.Steps.{fixesOf, placedOf, finishedOf}
 use Rattle.modelling.specs.Demand.{fixes-are, placed-is, known-of}
-use Rattle.modelling.specs.Laid.{Good, noConstraint}
-use Rattle.modelling.specs.Rowed.{Has, has, fin, bad-has, have-past}
-use Rattle.modelling.specs.Full.{full, model-full, step-full, length-front}
-use Rattle.modelling.specs.Logs.{rows-names}
-use Rattle.modelling.specs.Blank.{pairsOf, Logged, names-small, mass-to, count-to}
+use Rattle.placing.specs.Laid.{Good, noConstraint}
+use Rattle.placing.specs.Rowed.{Has, has, fin, bad-has, have-past}
+use Rattle.placing.specs.Full.{full, model-full, step-full, length-front}
+use Rattle.placing.specs.Logs.{rows-names}
+use Rattle.placing.specs.Blank.{pairsOf, Logged, names-small, mass-to, count-to}
 use Rattle.modelling.specs.Fixing.{Holds, Fixable, FixedAs, Reading, fixesBy, fixes-by, fixAll-length, fixAll-mass}
 
 -- ---- how the whole ends

@@ -1,26 +1,10 @@
 // The model of a numbered circuit: the penalties of its gates and joins placed at their qubits, the pairs settled, the qubits fixed, the form turned and the variables counted.
-// `rows` reads a name's row off the circuit and the tables of names, `placing` places all of them.
-use penalty::Kind;
-use qubo::Wires;
+// The rows are placed by the crate `placing`.
 use store::Totals;
 use units::Qubit;
 
 pub mod fixes;
 pub mod model;
-pub mod placing;
-pub mod rows;
-
-// The row of a gate: by the penalty of a kind, or none.
-pub enum Ruled {
-    By(Kind),
-    Free,
-}
-
-// A row that is to be placed, with the qubits at its slots; or none.
-pub enum Placed {
-    At(Kind, Wires),
-    Nothing,
-}
 
 // A qubit that is fixed, and the value.
 pub struct Fix {

@@ -1,232 +1,58 @@
--- The steps of a build on tables of exactly the lengths of 7, and how they make the whole.
+-- A build on tables that may be longer than the lengths of 7, and how the checks decide.
 -- Assumes nothing.
-use mathlib.Core.Path.{_≡_, refl, sym, ap, ap₂, _∙_, subst}
-use mathlib.Core.List.{List, [], _∷_, _++_, map}
-use Prim.Native.Nat.{ℕ, zero, suc, _+_, _*_, _-_, _≤_, _<_}
+use mathlib.Core.Path.{_≡_, refl, sym, ap, ap₂, _∙_}
+use mathlib.Core.Bool.{cond}
+use mathlib.Core.List.{List, _++_}
+use Prim.Native.Nat.{ℕ, _+_, _*_, _≤_}
 use native.Mathlib.Omega.{arith}
-use lib.IntN.{ℤ, pos}
-use lib.ListN.{length, take, drop, replicate, length-map}
+use lib.ListN.{length, take, drop}
+use lib.Seq.{length-take-le}
+use Rattle.laws.specs.Test.{by-ltb}
 use Rattle.units.specs.declared.Form.{Form}
-use Rattle.units.specs.Name.{gate, qubit}
-use Rattle.units.specs.declared.Qubit.{Qubit}
 use Rattle.energy.specs.Circuit.{Circuit}
-use Rattle.energy.specs.Model.{Entry, Model, variables}
-use Rattle.energy.specs.Clash.{none, at, clash}
+use Rattle.energy.specs.Model.{variables}
 use Rattle.circuit.specs.declared.Counts.{Counts}
-use Rattle.circuit.specs.declared.Refusal.the-variants.{HasQubit, FixedTwice}
-use Rattle.circuit.specs.File.{countOf}
-use Rattle.circuit.specs.Check.{countsOf, checked}
 use Rattle.circuit.specs.declared.Checked.{Checked}
 use Rattle.circuit.specs.declared.Checked.the-variants.{Accepted, Refused as Rejected}
 use Rattle.circuit.specs.declared.Refusal.{Refusal}
-use Rattle.circuit.specs.Starts.{startsOf}
+use Rattle.circuit.specs.declared.Refusal.the-variants.{HasQubit, FixedTwice}
+use Rattle.circuit.specs.Check.{checked}
 use Rattle.circuit.specs.Meaning.{circuitOf}
-use Rattle.circuit.specs.Accepted.{Sound, WellFormed, well-formed, CountsAre, counts-are, Accepts, accepts}
-use Rattle.numbering.specs.State.{State, mk, namesOf, start}
-use Rattle.numbering.specs.Read.{Prepared}
-use Rattle.numbering.specs.Bytes.{prepared}
-use Rattle.numbering.specs.Numbered.{Outcome, refused, numbered, number}
-use Rattle.pairs.specs.Store.{zip, front}
-use Rattle.store.specs.declared.Totals.{Totals}
-use Rattle.store.specs.Tables as qubo
-use Rattle.modelling.specs.declared.Counted.{Counted}
-use Rattle.modelling.specs.declared.Modelled.the-variants.{Model as Made, Refused as Refuses}
-use Rattle.modelling.specs.Laid.{Good, laid}
-use Rattle.modelling.specs.Steps.{fixesOf, finishedOf}
-use Rattle.modelling.specs.Blank.{Blank, pairsOf}
-use Rattle.modelling.specs.Fixing.{Holds}
-use Rattle.modelling.specs.Modelled.{ModelledAs}
+use Rattle.circuit.specs.Accepted.{CountsAre, Accepts, accepts}
+use Rattle.numbering.specs.State.{namesOf}
+use Rattle.placing.specs.Blank.{pairsOf}
+use Rattle.filling.specs.declared.Filled.{Filled}
+use Rattle.filling.specs.declared.Filled.the-variants.{Already, Clashes, Model}
+use Rattle.filling.specs.Made.{Made, already, clashes, model, make}
+use Rattle.filling.specs.Tables.{filledBy}
 use Rattle.qubot.specs.declared.Built.{Built}
 use Rattle.qubot.specs.declared.Built.the-variants.{Done, Refused}
-use Rattle.qubot.specs.Made.{already, clashes, model, afterClash, afterNumber, make}
-use Rattle.laws.specs.Test.{by-ltb}
-use mathlib.Core.Bool.{cond}
-use lib.Seq.{length-take-le}
-use Rattle.qubot.specs.Built.{Tables, lent, lesser, gatesIn, namesIn, pairsIn, onto, zeroed, padded, filled, answer, finishedBy, inTables, checkedBy, built}
+use Rattle.qubot.specs.Built.{Tables, lent, lesser, gatesIn, namesIn, pairsIn, onto, finishedBy, inTables, checkedBy, built}
+-- what the steps on tables of exactly the lengths of 7 ask
+pub use Rattle.filling.specs.Parts.{Passed, NameTables, ModelTables, gates-are, list-bits-are, bads-are, constraints-are, counted, gates-few, bads-few, list-bits-few, is-prepared, good}
 
--- the bytes passed the checks, and these are their counts
-pub record Passed (b : List ℕ) (k : Counts) : Type 0 where
-  pub sound : Sound b
-  pub counts : k ≡ countsOf b
+-- ---- the answer
 
--- the three tables of names have their lengths
-pub record NameTables (c : Circuit) (q o r : List ℕ) : Type 0 where
-  pub qubits : length q ≡ length (c .gates)
-  pub origins : length o ≡ namesOf c
-  pub roles : length r ≡ namesOf c
-
--- the six tables of the model have theirs
-pub record ModelTables (c : Circuit) (l : List ℤ) (h w f ks : List ℕ) (ws : List ℤ) : Type 0 where
-  pub linear : length l ≡ namesOf c
-  pub hasLinear : length h ≡ namesOf c
-  pub hasRow : length w ≡ namesOf c
-  pub fixed : length f ≡ namesOf c
-  pub keys : length ks ≡ pairsOf c
-  pub weights : length ws ≡ pairsOf c
-
-module _ {b : List ℕ} {k : Counts} (passed : Passed b k) where
-  abbrev c : Circuit
-  c = circuitOf b
-
-  wf : WellFormed c
-  wf = well-formed b (passed .sound)
-
-  pub gates-are : k .gates ≡ countOf b 0 13
-  unfolding countsOf
-  gates-are = ap (λ (x : Counts). x .gates) (passed .counts)
-
-  pub list-bits-are : k .«list_bits» ≡ countOf b 20 20
-  unfolding countsOf
-  list-bits-are = ap (λ (x : Counts). x .«list_bits») (passed .counts)
-
-  pub bads-are : k .«bad_states» ≡ countOf b 21 21
-  unfolding countsOf
-  bads-are = ap (λ (x : Counts). x .«bad_states») (passed .counts)
-
-  pub constraints-are : k .constraints ≡ countOf b 22 22
-  unfolding countsOf
-  constraints-are = ap (λ (x : Counts). x .constraints) (passed .counts)
-
-  pub counted : CountsAre k c
-  counted = subst (λ (x : Counts). CountsAre x c) (sym (passed .counts)) (counts-are b)
-
-  pub gates-few : k .gates ≤ 1000
-  gates-few = omega (arith, counted .gates, wf .fewGates)
-
-  pub bads-few : k .«bad_states» ≤ 64
-  bads-few = omega (arith, counted .bads, wf .fewBads)
-
-  pub list-bits-few : k .«list_bits» ≤ 4096
-  list-bits-few = omega (arith, list-bits-are, passed .sound .timely .regular .listBits)
-
-  -- what the numbering asks
-  pub is-prepared : Prepared b (startsOf b 20) (k .gates + k .«list_bits») (k .«bad_states») (k .constraints)
-  is-prepared = rw (gates-are, list-bits-are, bads-are, constraints-are) (prepared b (passed .sound))
-
-  -- what the model asks of a numbered circuit
-  pub good : (s : State) → number c ≡ numbered s → Good b (k .gates + k .«list_bits») (k .gates + k .«list_bits» + k .«bad_states») s
-  good s n =
-      record {
-        laid = rw (gates-are, list-bits-are, bads-are) (laid b (passed .sound .timely .regular .form));
-        formed = is-prepared .formed;
-        is = n;
-        gates-few = wf .fewGates;
-        bads-few = wf .fewBads;
-        constraints-few = wf .fewConstraints;
-      }
-
--- cleared tables are the numbering's start
-pub cleared-start : (c : Circuit) {q o r q′ o′ r′ : List ℕ} → NameTables c q o r → q′ ≡ replicate (length q) 0 → o′ ≡ replicate (length o) 0 → r′ ≡ replicate (length r) 0
-    → mk q′ o′ r′ 2 ≡ start c
-unfolding start
-cleared-start c n e f g i =
-    mk ((e ∙ ap (λ (x : ℕ). replicate x 0) (n .qubits)) i) ((f ∙ ap (λ (x : ℕ). replicate x 0) (n .origins)) i) ((g ∙ ap (λ (x : ℕ). replicate x 0) (n .roles)) i) 2
-
--- ---- the refusals
-
-pub all-zero : (c : Circuit) {q o r : List ℕ} {l : List ℤ} {h w f ks : List ℕ} {ws : List ℤ} {q′ o′ r′ : List ℕ} {l′ : List ℤ} {h′ w′ f′ ks′ : List ℕ} {ws′ : List ℤ}
-    → NameTables c q o r → ModelTables c l h w f ks ws
-    → q′ ≡ replicate (length q) 0 → o′ ≡ replicate (length o) 0 → r′ ≡ replicate (length r) 0
-    → l′ ≡ replicate (length l) (pos 0) → h′ ≡ replicate (length h) 0 → w′ ≡ replicate (length w) 0 → f′ ≡ replicate (length f) 0
-    → ks′ ≡ replicate (length ks) 0 → ws′ ≡ replicate (length ws) (pos 0)
-    → lent q′ o′ r′ l′ h′ w′ f′ ks′ ws′ ≡ zeroed c
-all-zero c n m eq eo er el eh ew ef ek ev i =
-    lent ((eq ∙ ap (λ (x : ℕ). replicate x 0) (n .qubits)) i) ((eo ∙ ap (λ (x : ℕ). replicate x 0) (n .origins)) i) ((er ∙ ap (λ (x : ℕ). replicate x 0) (n .roles)) i)
-    ((el ∙ ap (λ (x : ℕ). replicate x (pos 0)) (m .linear)) i)
-    ((eh ∙ ap (λ (x : ℕ). replicate x 0) (m .hasLinear)) i)
-    ((ew ∙ ap (λ (x : ℕ). replicate x 0) (m .hasRow)) i)
-    ((ef ∙ ap (λ (x : ℕ). replicate x 0) (m .fixed)) i)
-    ((ek ∙ ap (λ (x : ℕ). replicate x 0) (m .keys)) i)
-    ((ev ∙ ap (λ (x : ℕ). replicate x (pos 0)) (m .weights)) i)
-
--- ---- the finished model in the tables
-
-firsts-zip : (ks : List ℕ) (ws : List ℤ) → length ws ≡ length ks → map (λ (e : Entry). e .0) (zip ks ws) ≡ ks
-firsts-zip [] ws e = refl
-firsts-zip (k ∷ ks) [] e = absurd (omega arith)
-firsts-zip (k ∷ ks) (w ∷ ws) e = ap (λ (x : List ℕ). k ∷ x) (firsts-zip ks ws (omega arith))
-
-seconds-zip : (ks : List ℕ) (ws : List ℤ) → length ws ≡ length ks → map (λ (e : Entry). e .1) (zip ks ws) ≡ ws
-seconds-zip [] [] e = refl
-seconds-zip [] (w ∷ ws) e = absurd (omega arith)
-seconds-zip (k ∷ ks) [] e = absurd (omega arith)
-seconds-zip (k ∷ ks) (w ∷ ws) e = ap (λ (x : List ℤ). w ∷ x) (seconds-zip ks ws (omega arith))
-
-map-zeros : {A : Type 0} (f : Entry → A) (n : ℕ) → map f (replicate n (0, pos 0)) ≡ replicate n (f (0, pos 0))
-map-zeros f zero = refl
-map-zeros f (suc n) = ap (λ (x : List _). f (0, pos 0) ∷ x) (map-zeros f n)
-
-map-front : {A : Type 0} (f : Entry → A) (n : ℕ) (s : List Entry) → map f (front s n) ≡ padded (f (0, pos 0)) n (map f s)
-map-front f n s = go s ∙ ap (λ (x : ℕ). map f s ++ replicate (n - x) (f (0, pos 0))) (sym (length-map s f))
-  where
-    go : (r : List Entry) → map f (r ++ replicate (n - length s) (0, pos 0)) ≡ map f r ++ replicate (n - length s) (f (0, pos 0))
-    go [] = map-zeros f (n - length s)
-    go (e ∷ r) = ap (λ (x : List _). f e ∷ x) (go r)
-
-module _ (form : Form) {b : List ℕ} {k : Counts} (passed : Passed b k) (s : State) where
-  pub model-filled : {x : Counted} {l : List ℤ} {h w f ks : List ℕ} {ws : List ℤ} → ModelledAs form (circuitOf b) s (Made x) l h w f ks ws
-      → (
-        lent (s .qubits) (s .origins) (s .roles) l h w f ks ws,
-        Done (record { form = form; names = s .next; pairs = x .totals .count; offset = x .totals .offset; variables = x .variables; bads = k .«bad_states»; inputs = k .inputs }),
-      )
-      ≡ finishedBy form (circuitOf b) (afterClash form (circuitOf b) s (clash (fixesOf (circuitOf b) s)))
-  model-filled {x} {l} {h} {w} {f} {ks} {ws} (clear, holds, count) =
-      (λ i. (
-        lent (s .qubits) (s .origins) (s .roles) (holds .is i .linear) (holds .is i .hasLinear) (holds .is i .hasRow) (holds .is i .fixed) (keys i) (weights i),
-        Done
-            (record {
-              form = form;
-              names = s .next;
-              pairs = holds .is i .count;
-              offset = holds .is i .offset;
-              variables = count i;
-              bads = counted passed .bads i;
-              inputs = counted passed .inputs i;
-            }),
-      ))
-      ∙ ap (λ z. finishedBy form (circuitOf b) (afterClash form (circuitOf b) s z)) (sym clear)
-    where
-      m : Model
-      m = finishedOf form (circuitOf b) s
-
-      even : length ws ≡ length ks
-      even = holds .weights ∙ sym (holds .keys)
-
-      entries : zip ks ws ≡ front (finishedOf form (circuitOf b) s .pairs) (pairsOf (circuitOf b))
-      entries = ap (λ (t : qubo.Tables). t .entries) (holds .is)
-
-      keys : ks ≡ padded 0 (pairsOf (circuitOf b)) (map (λ (e : Entry). e .0) (finishedOf form (circuitOf b) s .pairs))
-      keys = sym (firsts-zip ks ws even) ∙ ap (map (λ (e : Entry). e .0)) entries ∙ map-front (λ (e : Entry). e .0) (pairsOf (circuitOf b)) (finishedOf form (circuitOf b) s .pairs)
-
-      weights : ws ≡ padded (pos 0) (pairsOf (circuitOf b)) (map (λ (e : Entry). e .1) (finishedOf form (circuitOf b) s .pairs))
-      weights = sym (seconds-zip ks ws even) ∙ ap (map (λ (e : Entry). e .1)) entries ∙ map-front (λ (e : Entry). e .1) (pairsOf (circuitOf b)) (finishedOf form (circuitOf b) s .pairs)
-
-  pub model-clashed : {q : ℕ} {t : Tables} → clash (fixesOf (circuitOf b) s) ≡ at q → t ≡ zeroed (circuitOf b)
-      → (t, Refused (FixedTwice (qubit q))) ≡ finishedBy form (circuitOf b) (afterClash form (circuitOf b) s (clash (fixesOf (circuitOf b) s)))
-  model-clashed {q} e z = ap (λ (x : Tables). (x, Refused (FixedTwice (qubit q)))) z ∙ ap (λ y. finishedBy form (circuitOf b) (afterClash form (circuitOf b) s y)) (sym e)
-
--- the whole, from how the numbering ended
-pub whole-of : (form : Form) (c : Circuit) (o : Outcome) → number c ≡ o → finishedBy form c (afterNumber form c o) ≡ finishedBy form c (make form c)
-unfolding make
-whole-of form c o e = ap (λ (x : Outcome). finishedBy form c (afterNumber form c x)) (sym e)
-
-pub blank-of : (c : Circuit) {l : List ℤ} {h w f ks : List ℕ} {ws : List ℤ} {l′ : List ℤ} {h′ w′ ks′ : List ℕ} {ws′ : List ℤ} → ModelTables c l h w f ks ws
-    → l′ ≡ replicate (length l) (pos 0) → h′ ≡ replicate (length h) 0 → w′ ≡ replicate (length w) 0
-    → ks′ ≡ replicate (length ks) 0 → ws′ ≡ replicate (length ws) (pos 0)
-    → Blank (namesOf c) (pairsOf c) l′ h′ w′ ks′ ws′
-blank-of c m el eh ew ek ev =
-    record {
-      linear = el ∙ ap (λ (x : ℕ). replicate x (pos 0)) (m .linear);
-      present = eh ∙ ap (λ (x : ℕ). replicate x 0) (m .hasLinear);
-      rows = ew ∙ ap (λ (x : ℕ). replicate x 0) (m .hasRow);
-      keys = ek ∙ ap (λ (x : ℕ). replicate x 0) (m .keys);
-      weights = ev ∙ ap (λ (x : ℕ). replicate x (pos 0)) (m .weights);
-    }
-
--- the answer for a finished model, from its parts
-abbrev pub doneOf : Form → Counts → Qubit → Counted → Built
-doneOf form k next x =
+-- what a build says of what became of the tables
+abbrev pub answerOf : Form → Counts → Filled → Built
+answerOf form k (Already g) = Refused (HasQubit g)
+answerOf form k (Clashes q) = Refused (FixedTwice q)
+answerOf form k (Model next x) =
     Done (record { form = form; names = next .0; pairs = x .totals .count; offset = x .totals .offset; variables = x .variables; bads = k .«bad_states»; inputs = k .inputs })
+
+-- the answer's part of a pair
+abbrev pub answered : Form → Counts → Tables × Filled → Tables × Built
+answered form k p = (p .0, answerOf form k (p .1))
+
+-- is what the definition says, where the counts are the circuit's
+pub answers : (form : Form) (k : Counts) (c : Circuit) → CountsAre k c → (m : Made) → answered form k (filledBy c m) ≡ finishedBy form c m
+answers form k c h (already g) = refl
+answers form k c h (clashes q) = refl
+answers form k c h (model s m) =
+    λ i. (
+      filledBy c (model s m) .0,
+      Done (record { form = form; names = s .next; pairs = length (m .pairs); offset = m .offset; variables = variables m; bads = h .bads i; inputs = h .inputs i }),
+    )
 
 -- ---- tables that may be longer
 
@@ -310,7 +136,7 @@ pub put-back : {A : Type 0} (n : ℕ) (xs t : List A) → length xs ≡ length (
 put-back n xs t e h = ap (λ (i : ℕ). xs ++ drop i t) (sym (e ∙ length-take-le n t h))
 
 -- the parts go back into their tables
-pub fitted : {k : Counts} (t : Tables) (room : Enough k t) (u : Tables) (r : Built)
+pub fitted : {k : Counts} (t : Tables) (room : Enough k t) {A : Type 0} (u : Tables) (r : A)
     → length (u .qubits) ≡ length (take (k .gates) (t .qubits))
     → length (u .origins) ≡ length (take (3 * k .gates + k .«bad_states» + 1) (t .origins))
     → length (u .roles) ≡ length (take (3 * k .gates + k .«bad_states» + 1) (t .roles))
@@ -332,7 +158,7 @@ pub fitted : {k : Counts} (t : Tables) (room : Enough k t) (u : Tables) (r : Bui
       r,
     )
     ≡ inTables t (u, r)
-fitted {k} t room u r q o s l h w f y v i = (
+fitted {k} t room {A} u r q o s l h w f y v i = (
   lent (put-back _ (u .qubits) (t .qubits) q (room .qubits) i) (put-back _ (u .origins) (t .origins) o (room .origins) i)
       (put-back _ (u .roles) (t .roles) s (room .roles) i)
       (put-back _ (u .linear) (t .linear) l (room .linear) i)
@@ -357,6 +183,10 @@ module _ (b : List ℕ) (form : Form) (t : Tables) {x : Checked} {n p : ℕ} (is
   unfolding built
   refused-as e = ap (checkedBy b form t) (sym (all-checked ∙ e))
 
-  pub built-as : {k : Counts} {y : Tables × Built} → x ≡ Accepted k → y ≡ inTables t (finishedBy form (circuitOf b) (make form (circuitOf b))) → y ≡ built b form t
+  pub built-as : {k : Counts} {u : Tables} {r : Filled} → x ≡ Accepted k → (u, r) ≡ inTables t (filledBy (circuitOf b) (make form (circuitOf b)))
+      → (u, answerOf form k r) ≡ built b form t
   unfolding built
-  built-as e f = f ∙ ap (checkedBy b form t) (sym (all-checked ∙ e))
+  built-as {k} e f =
+      ap (answered form k) f
+      ∙ ap (inTables t) (answers form k (circuitOf b) (counted (record { sound = accepted-as e .sound; counts = accepted-as e .counts })) (make form (circuitOf b)))
+      ∙ ap (checkedBy b form t) (sym (all-checked ∙ e))

@@ -4,42 +4,33 @@
 use mathlib.Core.Path.{_≡_, refl, sym, ap, ap₂, _∙_, subst}
 use mathlib.Core.Logic.{_↔_}
 use mathlib.Core.List.{List, [], _∷_, _++_, map, append-assoc}
-use Prim.Native.Nat.{ℕ, zero, suc, _+_, _*_, _-_, _≤_, _<_}
+use Prim.Native.Nat.{ℕ, zero, suc, _+_, _-_, _<_}
 use native.Mathlib.Omega.{arith}
 use lib.IntN.{ℤ, pos}
-use lib.ListN.{length, getD, take, drop, replicate, length-map}
-use lib.Seq.{take-append-seam}
+use lib.ListN.{length, getD, take}
 use Rattle.units.specs.declared.Form.{Form}
 use Rattle.units.specs.declared.Form.the-variants.{Binary, Ising}
 use Rattle.energy.specs.Circuit.{Circuit, Choice}
 use Rattle.energy.specs.Plain.{Setting}
-use Rattle.energy.specs.Numbering.{Named, Numbering}
-use Rattle.energy.specs.Model.{Entry, Model, Sized, variables, binaryEnergy, isingEnergy, energyIn}
-use Rattle.energy.specs.Sized.{sized-ising}
+use Rattle.energy.specs.Numbering.{Numbering}
+use Rattle.energy.specs.Model.{Entry, Model, Sized, variables, binaryEnergy, energyIn}
 use Rattle.energy.specs.Fixing.{complete, fixedAt}
-use Rattle.energy.specs.Clash.{Clash, none, at, clash}
-use Rattle.energy.specs.Finished.{inForm, fixes, Hit, OwnRunOnly, Demand3, sized-finished}
+use Rattle.energy.specs.Clash.{none, clash}
+use Rattle.energy.specs.Finished.{inForm, fixes, Hit, OwnRunOnly, Demand3}
 use Rattle.energy.specs.Finished as energy
-use Rattle.circuit.specs.declared.Counts.{Counts}
-use Rattle.circuit.specs.declared.Checked.{Checked}
-use Rattle.circuit.specs.declared.Checked.the-variants.{Accepted, Refused as Rejected}
-use Rattle.circuit.specs.Check.{checked}
-use Rattle.circuit.specs.declared.Refusal.{Refusal}
 use Rattle.circuit.specs.Meaning.{circuitOf}
-use Rattle.circuit.specs.Accepted.{Sound, accepts, WellFormed, well-formed}
+use Rattle.circuit.specs.Accepted.{Sound}
 use Rattle.numbering.specs.State.{State, mk, namesOf}
-use Rattle.numbering.specs.Numbered.{Outcome, refused, numbered, number, namedOf}
-use Rattle.numbering.specs.Finished.{Formed, Finished as Named·finished, finished, numbering}
-use Rattle.numbering.specs.Bytes.{prepared}
+use Rattle.numbering.specs.Numbered.{numbered, number, namedOf}
+use Rattle.numbering.specs.Finished.{Finished as Named·finished, finished, numbering}
 use Rattle.pairs.specs.Store.{zip}
 use Rattle.modelling.specs.Steps.{fixesOf, finishedOf}
-use Rattle.modelling.specs.Blank.{pairsOf}
-use Rattle.modelling.specs.Demand.{demand, finished-is}
-use Rattle.qubot.specs.declared.Built.{Built}
-use Rattle.qubot.specs.declared.Built.the-variants.{Done, Refused}
+use Rattle.modelling.specs.Demand.{demand}
+use Rattle.qubot.specs.declared.Built.the-variants.{Done}
 use Rattle.qubot.specs.declared.Finished.{Finished}
-use Rattle.qubot.specs.Made.{afterClash, afterNumber, make}
-use Rattle.qubot.specs.Built.{Tables, lent, gatesIn, namesIn, pairsIn, padded, filled, onto, within, answer, finishedBy, inTables, checkedBy, built}
+use Rattle.qubot.specs.Built.{Tables, filled, within, answer, built}
+use Rattle.qubot.specs.Left.{by-done, take-onto, formed, small}
+use Rattle.qubot.specs.Left as left
 
 -- ---- reading the tables
 
@@ -91,9 +82,6 @@ ProvedOf b form t f = Proved b form (stateIn (circuitOf b) t f) (modelIn (circui
 
 -- ---- what the build left, read back
 
-take-onto : {A : Type 0} (n : ℕ) (xs t : List A) → length xs ≡ n → take n (onto xs t) ≡ xs
-take-onto n xs t e = ap (λ (i : ℕ). take i (xs ++ drop (length xs) t)) (sym e) ∙ take-append-seam xs (drop (length xs) t)
-
 take-pairs : (ps : List Entry) (x : List ℕ) (y : List ℤ) → take (length ps) (zip (map (λ (e : Entry). e .0) ps ++ x) (map (λ (e : Entry). e .1) ps ++ y)) ≡ ps
 take-pairs [] x y = refl
 take-pairs (p ∷ ps) x y = ap (λ (l : List Entry). p ∷ l) (take-pairs ps x y)
@@ -117,26 +105,14 @@ module _ (b : List ℕ) (form : Form) (t : Tables) (sound : Sound b) (s : State)
   abbrev f : Finished
   f = answer form c s m
 
-  formed : Formed c
-  formed = prepared b sound .formed
+  abbrev fin : Named·finished c s
+  fin = left.fin b sound s num
 
-  small : namesOf c ≤ 65536
-  small = omega (arith, well-formed b sound .fewGates, well-formed b sound .fewBads)
+  abbrev sized : Sized (namesOf c) m
+  sized = left.sized b sound s num form
 
-  fin : Named·finished c s
-  fin = finished c formed s num
-
-  sized : Sized (namesOf c) m
-  sized = rw (finished-is c formed s num form) (go form)
-    where
-      base : Sized (namesOf c) (energy.finished (namesOf c) (namedOf c s) (c .constraints))
-      base = sized-finished (namesOf c) (namedOf c s) (numbering c formed s fin) (record { fits = fin .atMost; names = small }) (c .constraints)
-
-      go : (form : Form) → Sized (namesOf c) (inForm form (energy.finished (namesOf c) (namedOf c s) (c .constraints)))
-      go Binary = base
-      go Ising = sized-ising (namesOf c) (energy.finished (namesOf c) (namedOf c s) (c .constraints)) base
-
-  state-read : stateIn c u f ≡ s
+  -- the names read back
+  pub state-read : stateIn c u f ≡ s
   state-read i = mk (take-onto _ (s .qubits) (t .qubits) (fin .gates) i) (take-onto _ (s .origins) (t .origins) (fin .origins) i) (take-onto _ (s .roles) (t .roles) (fin .roles) i) (s .next)
 
   pairs-read : take (length (m .pairs)) (zip (u .keys) (u .weights)) ≡ m .pairs
@@ -146,7 +122,8 @@ module _ (b : List ℕ) (form : Form) (t : Tables) (sound : Sound b) (s : State)
       (append-assoc (map (λ (e : Entry). e .1) (m .pairs)) _ _)
       ∙ take-pairs (m .pairs) _ _
 
-  model-read : modelIn c u f ≡ m
+  -- the model read back
+  pub model-read : modelIn c u f ≡ m
   model-read i =
       record {
         offset = m .offset;
@@ -158,10 +135,10 @@ module _ (b : List ℕ) (form : Form) (t : Tables) (sound : Sound b) (s : State)
       }
 
   d3 : Demand3 (namesOf c) (namedOf c s) (c .constraints)
-  d3 = demand c formed s num small clear
+  d3 = demand c (formed b sound) s num (small b sound) clear
 
-  fin-is : m ≡ inForm form (energy.finished (namesOf c) (namedOf c s) (c .constraints))
-  fin-is = finished-is c formed s num form
+  abbrev fin-is : m ≡ inForm form (energy.finished (namesOf c) (namedOf c s) (c .constraints))
+  fin-is = left.fin-is b sound s num form
 
   same-energy : (g : Form) (σ : Setting) → energyIn g σ (inForm g (energy.finished (namesOf c) (namedOf c s) (c .constraints))) ≡ binaryEnergy σ (energy.finished (namesOf c) (namedOf c s) (c .constraints))
   same-energy Binary σ = refl
@@ -174,7 +151,7 @@ module _ (b : List ℕ) (form : Form) (t : Tables) (sound : Sound b) (s : State)
   of-parts =
       record {
         form-asked = refl;
-        names = numbering c formed s fin;
+        names = numbering c (formed b sound) s fin;
         before-fixing = d3 .before;
         after-fixing = λ σ. ap (energyIn form σ) fin-is ∙ same-energy form σ ∙ d3 .after σ;
         fixed-values = λ (q : ℕ) (h : q < namesOf c).
@@ -194,34 +171,6 @@ module _ (b : List ℕ) (form : Form) (t : Tables) (sound : Sound b) (s : State)
 
 -- ---- the theorem
 
-never : {x u : Tables} {r : Refusal} {f : Finished} → _≡_ {A = Tables × Built} (x, Refused r) (u, Done f) → ⊥
-never {x} {u} {r} {f} h =
-    let k : Refused r ≡ Done f = ap (λ (z : Tables × Built). z .1) h in
-    let z : _≡_ {A = ℕ} 0 1 = cc in
-    omega arith
-
-same-tables : {x u : Tables} {g f : Finished} → _≡_ {A = Tables × Built} (x, Done g) (u, Done f) → x ≡ u
-same-tables h = ap (λ (z : Tables × Built). z .0) h
-
-same-answer : {x u : Tables} {g f : Finished} → _≡_ {A = Tables × Built} (x, Done g) (u, Done f) → g ≡ f
-same-answer {x} {u} {g} {f} h = let k : Done g ≡ Done f = ap (λ (z : Tables × Built). z .1) h in cc
-
 -- Theorem: whatever the bytes and the tables were, if a build answers `Done`, then all of this holds of the tables that it left and of its answer.
 pub build-proved : (b : List ℕ) (form : Form) (t u : Tables) (f : Finished) → built b form t ≡ (u, Done f) → ProvedOf b form u f
-unfolding built make
-build-proved b form t u f e = by-check (checked b (gatesIn t) (namesIn t) (pairsIn t)) refl e
-  where
-    by-clash : Sound b → (s : State) → number (circuitOf b) ≡ numbered s → (k : Clash) → clash (fixesOf (circuitOf b) s) ≡ k
-        → inTables t (finishedBy form (circuitOf b) (afterClash form (circuitOf b) s k)) ≡ (u, Done f) → ProvedOf b form u f
-    by-clash sound s n (at q) k h = absurd (never h)
-    by-clash sound s n none k h =
-        subst (λ (x : Tables). ProvedOf b form x f) (same-tables h)
-        (subst (λ (x : Finished). ProvedOf b form (within (filled (circuitOf b) s (finishedOf form (circuitOf b) s)) t) x) (same-answer h) (of-model b form t sound s n k))
-
-    by-number : Sound b → (o : Outcome) → number (circuitOf b) ≡ o → inTables t (finishedBy form (circuitOf b) (afterNumber form (circuitOf b) o)) ≡ (u, Done f) → ProvedOf b form u f
-    by-number sound (refused g s) n h = absurd (never h)
-    by-number sound (numbered s) n h = by-clash sound s n (clash (fixesOf (circuitOf b) s)) refl h
-
-    by-check : (x : Checked) → checked b (gatesIn t) (namesIn t) (pairsIn t) ≡ x → checkedBy b form t x ≡ (u, Done f) → ProvedOf b form u f
-    by-check (Rejected r) k h = absurd (never h)
-    by-check (Accepted n) k h = by-number (accepts b (gatesIn t) (namesIn t) (pairsIn t) n k .sound) (number (circuitOf b)) refl h
+build-proved b form t u f e = by-done b form t u f (ProvedOf b form) e (of-model b form t)

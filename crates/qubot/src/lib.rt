@@ -1,17 +1,17 @@
 // The build: from the bytes of a circuit to the finished model.
+use answer::answer_of;
+use checks::check;
 use circuit::Checked;
 use circuit::Refusal;
-use circuit::check::check;
 use least::least_of;
 use least::lesser;
 use units::Form;
-use whole::build_accepted;
+use whole::fill_tables;
 ghost use mathlib.Core.Path.{_≡_};
 ghost use Rattle.qubot.specs.Built.{lent, built};
 
-pub mod clear;
+pub mod answer;
 pub mod least;
-pub mod parts;
 pub mod whole;
 
 // What a build says of the finished model: its form, how many names there are, how many pairs, the offset in halves, the variable count, and how many bad states and inputs the circuit has.
@@ -60,19 +60,22 @@ pub fn build(
     let checked = check(circuit, gates, names, pairs);
     match checked {
         Checked::Refused(r) => Built::Refused(r),
-        Checked::Accepted(k) => build_accepted(
-            circuit,
-            form,
-            k,
-            qubits,
-            origins,
-            roles,
-            linear,
-            has_linear,
-            has_row,
-            fixed,
-            keys,
-            weights,
-        ),
+        Checked::Accepted(k) => {
+            let filled = fill_tables(
+                circuit,
+                form,
+                k,
+                qubits,
+                origins,
+                roles,
+                linear,
+                has_linear,
+                has_row,
+                fixed,
+                keys,
+                weights,
+            );
+            answer_of(form, k, filled)
+        }
     }
 }

@@ -1,16 +1,17 @@
 // The build on tables that may be longer than the lengths of 7: what stands past those stays.
-use crate::Built;
-use crate::parts::fill;
 use circuit::Counts;
+use filling::Filled;
+use filling::fill;
 use units::Form;
 ghost use mathlib.Core.Path.{_≡_};
 ghost use Rattle.circuit.specs.Meaning.{circuitOf};
+ghost use Rattle.filling.specs.Tables.{filledBy};
 ghost use Rattle.qubot.specs.Made.{make};
-ghost use Rattle.qubot.specs.Built.{lent, inTables, finishedBy};
+ghost use Rattle.qubot.specs.Built.{lent, inTables};
 ghost use Rattle.qubot.specs.Parts.{Passed, Enough};
 
-// A build of bytes that passed the checks 1 to 7: the parts of the tables that 7 names are filled.
-pub fn build_accepted(
+// Bytes that passed the checks 1 to 7: the parts of the tables that 7 names are filled.
+pub fn fill_tables(
     circuit: &[u8],
     form: Form,
     k: Counts,
@@ -23,9 +24,9 @@ pub fn build_accepted(
     fixed: &mut [u8],
     keys: &mut [u32],
     weights: &mut [i64],
-) -> Built
+) -> Filled
     requires { ⌜ Passed (now circuit) k × Enough k (lent (now qubits) (now origins) (now roles) (now linear) (now «has_linear») (now «has_row») (now fixed) (now keys) (now weights)) ⌝ }
-    ensures { λ r. ⌜ (lent (now (qubits .exit)) (now (origins .exit)) (now (roles .exit)) (now (linear .exit)) (now («has_linear» .exit)) (now («has_row» .exit)) (now (fixed .exit)) (now (keys .exit)) (now (weights .exit)), r) ≡ inTables (lent (now (qubits .entry)) (now (origins .entry)) (now (roles .entry)) (now (linear .entry)) (now («has_linear» .entry)) (now («has_row» .entry)) (now (fixed .entry)) (now (keys .entry)) (now (weights .entry))) (finishedBy form (circuitOf (now (circuit .entry))) (make form (circuitOf (now (circuit .entry))))) ⌝ }
+    ensures { λ r. ⌜ (lent (now (qubits .exit)) (now (origins .exit)) (now (roles .exit)) (now (linear .exit)) (now («has_linear» .exit)) (now («has_row» .exit)) (now (fixed .exit)) (now (keys .exit)) (now (weights .exit)), r) ≡ inTables (lent (now (qubits .entry)) (now (origins .entry)) (now (roles .entry)) (now (linear .entry)) (now («has_linear» .entry)) (now («has_row» .entry)) (now (fixed .entry)) (now (keys .entry)) (now (weights .entry))) (filledBy (circuitOf (now (circuit .entry))) (make form (circuitOf (now (circuit .entry))))) ⌝ }
 {
     let g = k.gates;
     let b = k.bad_states;

@@ -1,7 +1,2 @@
 -- Lemmas that several proofs cite.
-pub mod Words
-pub mod Left
-pub mod Tables
-pub mod Parts
-pub mod Whole
-pub mod Short
+pub mod Sign

@@ -6,12 +6,12 @@ use mathlib.Core.Bool.{Bool, true, false, true≢false, false≢true}
 use mathlib.Core.List.{List, [], _∷_, _++_, append-nil}
 use Prim.Native.Nat.{ℕ, zero, suc, _/_, _%_, _^_, _≤_, _<_}
 use native.Mathlib.Omega.{arith}
-use lib.Dec.{T, eqb, ltb, ltb→lt}
+use lib.Dec.{eqb}
 use lib.IntN.{ℤ, pos, negsuc, natAbs}
 use lib.ListN.{length, length-append}
-use lib.Signed.{_<ℤ_, _≤ℤ_}
 use borrow.Author.Tests.{eq-eqb, ne-eqb}
 use Rattle.text.specs.Bytes.{All, Stops, split}
+use Rattle.text.specs.Signed.{withSign, length-sign}
 use Rattle.text.specs.Decimal.{decimal, digits, isDigit, decimal-digits, decimal-injective, length-decimal}
 
 -- `.5` where the count is odd
@@ -25,8 +25,7 @@ halfText n = decimal (n / 2) ++ point (eqb (n % 2) 1)
 
 -- a signed count of halves
 unfoldable pub halvesText : ℤ → List ℕ
-halvesText (pos n) = halfText n
-halvesText (negsuc n) = 45 ∷ halfText (suc n)
+halvesText h = withSign halfText h
 
 pub half-odd : (n : ℕ) → n % 2 ≡ 1 → halfText n ≡ decimal (n / 2) ++ (46 ∷ 53 ∷ [])
 unfolding halfText
@@ -35,20 +34,6 @@ half-odd n h = simp (eq-eqb (n % 2) 1 h)
 pub half-even : (n : ℕ) → (n % 2 ≡ 1 → ⊥) → halfText n ≡ decimal (n / 2)
 unfolding halfText
 half-even n h = simp (ne-eqb (n % 2) 1 h) (append-nil (decimal (n / 2)))
-
--- a count below 0, and one that is not
-pub halves-below : (h : ℤ) → h <ℤ pos 0 → halvesText h ≡ 45 ∷ halfText (natAbs h)
-unfolding halvesText
-halves-below (pos n) l = absurd (none n (l .lt))
-  where
-    none : (n : ℕ) → T (ltb n 0) → ⊥
-    none n t = omega (arith, ltb→lt n 0 t)
-halves-below (negsuc n) l = refl
-
-pub halves-above : (h : ℤ) → pos 0 ≤ℤ h → halvesText h ≡ halfText (natAbs h)
-unfolding halvesText
-halves-above (pos n) l = refl
-halves-above (negsuc n) l = absurd (l .le)
 
 -- ---- the only spelling
 
@@ -131,8 +116,7 @@ length-half n h =
 
 pub length-halves : (h : ℤ) → natAbs h < 2 ^ 64 → length (halvesText h) ≤ 22
 unfolding halvesText
-length-halves (pos n) h = omega (arith, length-half n h)
-length-halves (negsuc n) h = omega (arith, length-half (suc n) h)
+length-halves h l = length-sign halfText h 21 (length-half (natAbs h) l)
 
 -- ---- samples: 6, -4, 2.5, -1.5, -0.5, 0
 

@@ -1,6 +1,8 @@
 pub mod Paste
+pub mod Left
 pub mod Bytes
 pub mod Decimal
+pub mod Signed
 pub mod Halves
 pub mod Text
 pub mod Samples

@@ -5,7 +5,9 @@ ghost use lib.IntN.{natAbs};
 ghost use mathlib.Core.Path.{_≡_};
 ghost use Rattle.text.specs.Paste.{Printed, Room};
 ghost use Rattle.text.specs.Decimal.{decimal};
+ghost use Rattle.text.specs.Signed.{signedText};
 ghost use Rattle.text.specs.Halves.{halfText, halvesText};
+ghost use Rattle.text.specs.Text.{leadText};
 
 // One byte.
 pub fn put(buf: &mut [u8], at: usize, b: u8) -> usize
@@ -16,6 +18,21 @@ pub fn put(buf: &mut [u8], at: usize, b: u8) -> usize
         buf[at] = b;
     }
     at + 1
+}
+
+// The bytes of a word.
+pub fn put_bytes(buf: &mut [u8], at: usize, s: &[u8]) -> usize
+    requires { ⌜ Room at (now s) ⌝ }
+    ensures { λ r. ⌜ Printed (now (s .entry)) (now (buf .entry)) at (now (buf .exit)) r ⌝ }
+{
+    let mut next = at;
+    let mut i = 0;
+    while i < s.len() {
+        let b = s[i];
+        next = put(buf, next, b);
+        i += 1;
+    }
+    next
 }
 
 // A number in decimal.
@@ -29,6 +46,15 @@ pub fn put_decimal(buf: &mut [u8], at: usize, n: u64) -> usize
         let next = put_decimal(buf, at, n / 10);
         put(buf, next, 48 + (n % 10) as u8)
     }
+}
+
+// A number that leads a line, and a space.
+pub fn put_lead(buf: &mut [u8], at: usize, n: u64) -> usize
+    requires { ⌜ Room at (leadText n) ⌝ }
+    ensures { λ r. ⌜ Printed (leadText n) (now (buf .entry)) at (now (buf .exit)) r ⌝ }
+{
+    let next = put_decimal(buf, at, n);
+    put(buf, next, b' ')
 }
 
 // n halves.
@@ -68,5 +94,19 @@ pub fn put_halves(buf: &mut [u8], at: usize, h: i64) -> usize
         put_half(buf, next, size)
     } else {
         put_half(buf, at, size)
+    }
+}
+
+// A signed number in decimal.
+pub fn put_signed(buf: &mut [u8], at: usize, z: i64) -> usize
+    requires { ⌜ Room at (signedText z) ⌝ }
+    ensures { λ r. ⌜ Printed (signedText z) (now (buf .entry)) at (now (buf .exit)) r ⌝ }
+{
+    let size = size_of(z);
+    if z < 0 {
+        let next = put(buf, at, b'-');
+        put_decimal(buf, next, size)
+    } else {
+        put_decimal(buf, at, size)
     }
 }

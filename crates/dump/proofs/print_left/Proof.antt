@@ -11,8 +11,9 @@ use mir.Facts.{toZ-ofZ}
 use Rattle.laws.specs.Abs.{fits-abs}
 use Rattle.text.specs.Paste.{printed-as, printed-whole}
 use Rattle.qubot.specs.Built.{Tables, lent}
+use Rattle.qubot.specs.Left.{names-counted}
 use Rattle.dump.specs.Dumped.{textIn, too-short, long-enough, text-as}
-use Rattle.dump.specs.Left.{printable, names-counted, names-few}
+use Rattle.dump.specs.Left.{printable, names-few}
 use Rattle.dump.proofs.print_left.Statement.{statement}
 use Rattle.dump.proofs.print_left.Tie as tie
 

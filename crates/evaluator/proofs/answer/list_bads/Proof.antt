@@ -1,8 +1,8 @@
 -- `evaluator::answer::list_bads` meets its contract.
 -- Assumes nothing.
 use Rattle.evaluator.proofs.Trues.{Listed, listed-start, listed-on, listed-skip, listed-end}
-use Rattle.evaluator.specs.Code.{nameIn}
-use Rattle.evaluator.specs.Need.{isTrue}
+use Rattle.rules.specs.Code.{nameIn}
+use Rattle.values.specs.Need.{isTrue}
 use borrow.Author.Needs.{needs}
 use denote.Ref.{now}
 use Prim.Native.Nat.{_-_}

@@ -1,9 +1,9 @@
 -- `evaluator::needs::need_all` meets its contract.
 -- Assumes nothing.
-use Rattle.evaluator.proofs.Giving.{then-stop, then-on}
-use Rattle.evaluator.specs.Layout.{net}
+use Rattle.evaluator.proofs.Chain.{then-stop, then-on}
+use Rattle.values.specs.Asking.{net}
 use Rattle.evaluator.specs.Ran.{marked, withHigher, badQubits}
-use Rattle.evaluator.specs.Need.{needOf}
+use Rattle.values.specs.Need.{needOf}
 use Rattle.numbering.specs.State.{mk}
 use Rattle.circuit.specs.Meaning.{circuitOf}
 use denote.Ref.{now}

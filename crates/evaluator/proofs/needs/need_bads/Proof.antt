@@ -1,8 +1,8 @@
 -- `evaluator::needs::need_bads` meets its contract.
 -- Assumes nothing.
 use lib.ListN.{drop-of-length-le, length-map}
-use Rattle.evaluator.proofs.Means.{bad-gate}
-use Rattle.evaluator.specs.Code.{nameIn}
+use Rattle.values.proofs.Means.{bad-gate}
+use Rattle.rules.specs.Code.{nameIn}
 use Rattle.circuit.specs.Meaning.{circuitOf}
 use Rattle.evaluator.proofs.Left.{Left, left-start, left-as, left-asked, left-on, left-stop, left-end, bad-on}
 use Rattle.evaluator.specs.Ran.{badQubits}

@@ -12,7 +12,7 @@ use Rattle.modelling.proofs.fixes.fix_at.Reads as reads
 use Rattle.modelling.proofs.fixes.fix_at.Lts as lts
 use Rattle.circuit.proofs.records.byte1_at.Reads as byte1-at-reads
 use Rattle.modelling.proofs.fixes.joined.Reads as joined-reads
-use Rattle.modelling.proofs.rows.named_by.Reads as named-by-reads
+use Rattle.placing.proofs.rows.named_by.Reads as named-by-reads
 
 joined-requires : tie.Need-joined-requires
 joined-requires c κs = search needs

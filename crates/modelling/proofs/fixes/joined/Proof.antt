@@ -7,7 +7,7 @@ use Rattle.modelling.proofs.fixes.joined.Statement.{statement}
 use Rattle.modelling.proofs.fixes.joined.Tie as tie
 use Rattle.modelling.proofs.fixes.joined.Reads as reads
 use Rattle.modelling.proofs.fixes.joined.Lts as lts
-use Rattle.modelling.proofs.rows.named_by.Reads as named-by-reads
+use Rattle.placing.proofs.rows.named_by.Reads as named-by-reads
 
 sub-t10 : tie.Need-sub-t10
 sub-t10 c = search needs

@@ -5,7 +5,7 @@ use native.Mathlib.Omega.{arith}
 use Rattle.pairs.proofs.Tables.{length-zip}
 use Rattle.store.specs.Tables.{Tables, tables, modelOf, hold}
 use Rattle.energy.specs.Finished.{inForm}
-use Rattle.modelling.specs.Full.{hold-same}
+use Rattle.placing.specs.Full.{hold-same}
 use Rattle.units.specs.declared.Form.{Form}
 use borrow.Author.Needs.{needs}
 use Rattle.modelling.proofs.model.turn.Statement.{statement}

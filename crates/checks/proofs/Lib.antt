@@ -1,0 +1,3 @@
+mod Late
+mod Wrong
+mod Checks

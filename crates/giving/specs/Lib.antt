@@ -1,0 +1,2 @@
+pub mod Give
+pub mod Asked

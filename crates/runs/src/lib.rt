@@ -1,0 +1,172 @@
+// A run, from the bytes of a circuit: `run` builds, and then gives the inputs their values on what the build left.
+use checks::sizes::counts_of;
+use circuit::Counts;
+use circuit::lists::input_starts;
+use circuit::lists::list_starts;
+use evaluator::answer::refused;
+use evaluator::answer::run_on;
+use qubot::Built;
+use qubot::Finished;
+use qubot::build;
+use store::Totals;
+use units::Form;
+ghost use mathlib.Core.Path.{_≡_};
+ghost use Rattle.circuit.specs.Check.{countsOf};
+ghost use Rattle.circuit.specs.Starts.{startsOf};
+ghost use Rattle.qubot.specs.Built.{lent};
+ghost use Rattle.evaluator.specs.Ran.{done, ran};
+ghost use Rattle.runs.specs.Left.{Left};
+ghost use Rattle.runs.specs.Evaluated.{builtIn, evaluated};
+
+// Lends a run the entries in use of the tables that a build left.
+fn run_parts(
+    circuit: &[u8],
+    k: Counts,
+    starts: &[u16; 65],
+    inputs_from: &[u16; 65],
+    f: Finished,
+    qubits: &[u16],
+    origins: &[u16],
+    roles: &[u8],
+    linear: &[i64],
+    has_linear: &[u8],
+    has_row: &[u8],
+    fixed: &[u8],
+    keys: &[u32],
+    weights: &[i64],
+    values: &mut [u8],
+    inputs: &[i64],
+) -> evaluator::Run
+    requires { ⌜ Left (now circuit) (lent (now qubits) (now origins) (now roles) (now linear) (now «has_linear») (now «has_row») (now fixed) (now keys) (now weights)) f × (k ≡ countsOf (now circuit)) × (now starts ≡ startsOf (now circuit) 20) × (now «inputs_from» ≡ startsOf (now circuit) 23) ⌝ }
+    ensures { λ r. ⌜ done r (now (values .exit)) ≡ ran (builtIn (now (circuit .entry)) (lent (now (qubits .entry)) (now (origins .entry)) (now (roles .entry)) (now (linear .entry)) (now («has_linear» .entry)) (now («has_row» .entry)) (now (fixed .entry)) (now (keys .entry)) (now (weights .entry))) f) (now (inputs .entry)) (now (values .entry)) ⌝ }
+{
+    let g = k.gates;
+    let n = 3 * g + k.bad_states + 1;
+    let from = g + k.list_bits;
+    let form = f.form;
+    let names = f.names;
+    let pairs = f.pairs;
+    let offset = f.offset;
+    let bads = f.bads;
+    let count = f.inputs;
+    run_on(
+        circuit,
+        starts,
+        inputs_from,
+        form,
+        &qubits[..g],
+        &origins[..n],
+        &roles[..n],
+        names,
+        &linear[..names],
+        &has_linear[..n],
+        &has_row[..n],
+        &fixed[..n],
+        &keys[..pairs],
+        &weights[..pairs],
+        Totals {
+            offset,
+            count: pairs,
+        },
+        from,
+        bads,
+        count,
+        values,
+        inputs,
+    )
+}
+
+// Runs on what a build left.
+fn run_left(
+    circuit: &[u8],
+    f: Finished,
+    qubits: &[u16],
+    origins: &[u16],
+    roles: &[u8],
+    linear: &[i64],
+    has_linear: &[u8],
+    has_row: &[u8],
+    fixed: &[u8],
+    keys: &[u32],
+    weights: &[i64],
+    values: &mut [u8],
+    inputs: &[i64],
+) -> evaluator::Run
+    requires { ⌜ Left (now circuit) (lent (now qubits) (now origins) (now roles) (now linear) (now «has_linear») (now «has_row») (now fixed) (now keys) (now weights)) f ⌝ }
+    ensures { λ r. ⌜ done r (now (values .exit)) ≡ ran (builtIn (now (circuit .entry)) (lent (now (qubits .entry)) (now (origins .entry)) (now (roles .entry)) (now (linear .entry)) (now («has_linear» .entry)) (now («has_row» .entry)) (now (fixed .entry)) (now (keys .entry)) (now (weights .entry))) f) (now (inputs .entry)) (now (values .entry)) ⌝ }
+{
+    let k = counts_of(circuit);
+    let gates = k.gates;
+    let list_bits = k.list_bits;
+    let starts = list_starts(circuit, gates, list_bits);
+    let inputs_from = input_starts(circuit);
+    run_parts(
+        circuit,
+        k,
+        &starts,
+        &inputs_from,
+        f,
+        qubits,
+        origins,
+        roles,
+        linear,
+        has_linear,
+        has_row,
+        fixed,
+        keys,
+        weights,
+        values,
+        inputs,
+    )
+}
+
+// A run: builds, then gives the inputs their values. Any bytes, any tables, any values.
+pub fn run(
+    circuit: &[u8],
+    form: Form,
+    qubits: &mut [u16],
+    origins: &mut [u16],
+    roles: &mut [u8],
+    linear: &mut [i64],
+    has_linear: &mut [u8],
+    has_row: &mut [u8],
+    fixed: &mut [u8],
+    keys: &mut [u32],
+    weights: &mut [i64],
+    values: &mut [u8],
+    inputs: &[i64],
+) -> evaluator::Run
+    ensures { λ r. ⌜ (lent (now (qubits .exit)) (now (origins .exit)) (now (roles .exit)) (now (linear .exit)) (now («has_linear» .exit)) (now («has_row» .exit)) (now (fixed .exit)) (now (keys .exit)) (now (weights .exit)), done r (now (values .exit))) ≡ evaluated (now (circuit .entry)) form (lent (now (qubits .entry)) (now (origins .entry)) (now (roles .entry)) (now (linear .entry)) (now («has_linear» .entry)) (now («has_row» .entry)) (now (fixed .entry)) (now (keys .entry)) (now (weights .entry))) (now (inputs .entry)) (now (values .entry)) ⌝ }
+{
+    let built = build(
+        circuit,
+        form,
+        qubits,
+        origins,
+        roles,
+        linear,
+        has_linear,
+        has_row,
+        fixed,
+        keys,
+        weights,
+    );
+    match built {
+        Built::Refused(r) => refused(r),
+        Built::Done(f) => run_left(
+            circuit,
+            f,
+            qubits,
+            origins,
+            roles,
+            linear,
+            has_linear,
+            has_row,
+            fixed,
+            keys,
+            weights,
+            values,
+            inputs,
+        ),
+    }
+}

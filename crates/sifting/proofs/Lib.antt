@@ -1,0 +1,3 @@
+-- Lemmas that several proofs cite.
+pub mod Gives
+pub mod Passing

@@ -1,0 +1,2 @@
+-- What the one pass over the pairs asks of the tables.
+pub mod Sifting

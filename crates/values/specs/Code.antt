@@ -1,0 +1,58 @@
+-- The value of a rule as the code finds it, and what becomes of its qubit.
+-- Assumes nothing: these are definitions.
+use mathlib.Core.Bool.{Bool, true, false, cond}
+use mathlib.Core.List.{List}
+use Prim.Native.Nat.{ℕ, _+_, _*_, _/_, _%_, _≤_}
+use lib.Dec.{eqb}
+use Rattle.units.specs.Name.{qubit}
+use Rattle.rules.specs.declared.Rule.{Rule}
+use Rattle.rules.specs.declared.Act.{Act}
+use Rattle.rules.specs.declared.Act.the-variants as act
+use Rattle.rules.specs.declared.Few.{Few}
+use Rattle.rules.specs.declared.Operands.{Operands}
+use Rattle.rules.specs.Code.{actOf, valueBy, bitsAt}
+use Rattle.values.specs.declared.Went.{Went}
+use Rattle.values.specs.declared.Went.the-variants.{On, Stopped}
+use Rattle.values.specs.declared.Stop.the-variants.{ZeroDivisor, NotGiven}
+use Rattle.values.specs.declared.settle.Value.{Value}
+use Rattle.values.specs.declared.settle.Value.the-variants as value
+use Rattle.values.specs.Need.{Got, stopped, isTrue, bit, put, number, bitOf}
+
+-- ---- the value of a rule
+
+-- of a division, from the two numbers: the remainder or the quotient
+abbrev pub dividedBy : Bool → ℕ → ℕ → ℕ → Value
+dividedBy rest i n d = cond (eqb d 0) value.ZeroDivisor (value.Known (bitOf i (cond rest (n % d) (n / d))))
+
+-- n and d are the numbers of the two lists
+abbrev pub valueAs : Rule → Few → ℕ → ℕ → List ℕ → Act → Value
+valueAs r f n d t act.Plain = value.Known (valueBy r (isTrue t (f .x1 .0)) (isTrue t (f .x2 .0)) (isTrue t (f .x3 .0)))
+valueAs r f n d t (act.Quotient i k l) = dividedBy false i n d
+valueAs r f n d t (act.Remainder i k l) = dividedBy true i n d
+valueAs r f n d t act.Nothing = value.NotGiven
+
+unfoldable pub valueIn : Rule → Operands → List ℕ → List ℕ → List ℕ → Value
+valueIn r o b qubits t =
+    valueAs r (o .few) (number t (bitsAt b qubits (o .first))) (number t (bitsAt b qubits (o .second))) t (actOf r)
+
+-- what becomes of q
+abbrev pub settled : Value → ℕ → List ℕ → Got
+settled (value.Known v) q t = put q v t
+settled value.ZeroDivisor q t = stopped (ZeroDivisor (qubit q))
+settled value.NotGiven q t = stopped (NotGiven (qubit q))
+
+pub record PartsAsked (size : ℕ) (o : Operands) : Type 0 where
+  pub first : 16 * (o .first .from + o .first .bits) ≤ size
+  pub second : 16 * (o .second .from + o .second .bits) ≤ size
+  pub short : o .first .bits ≤ 64
+  pub short-too : o .second .bits ≤ 64
+
+-- ---- steps
+
+abbrev pub isStop : Went → Bool
+isStop On = false
+isStop (Stopped x) = true
+
+-- a fixed value's byte: 2 is fixed true
+abbrev pub fixedBit : ℕ → ℕ
+fixedBit f = bit (eqb f 2)

@@ -1,0 +1,4 @@
+pub mod Need
+pub mod Asking
+pub mod Code
+pub mod Fuel
