@@ -6,7 +6,6 @@
 // the original has no record files, so it has no answer to those.
 // Two words serve the speed benchmark: `fill` fills each GateModel and answers nothing more, and `adders N` places 1,019 full adders into the original's
 // Qubo, N times.
-// For timing: with the argument `fill` the models are filled and nothing is built; with `place` full adders are placed in the original's store and no case is read.
 #![allow(dead_code, unused_imports, clippy::all)]
 mod unicorn;
 

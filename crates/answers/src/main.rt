@@ -2,79 +2,72 @@
 // values (2 bytes), the length of the circuit (4 bytes), the circuit, and 8 bytes for each value, all little endian. For each it writes `case K`, from 0, and
 // then what the model or run program writes, with no limit of 4,096 bytes; after a run also `values` and the value bytes of the model's names. A circuit longer
 // than any that passes check 2 is read past and answered `refused 2 0`. A stream that ends inside a case, or a form or a job over 1, ends with the line `malformed`.
-mod answer;
-mod heads;
-mod input;
-mod output;
-mod stream;
+mod reading;
 
-use answer::answer_all;
-use units::Form;
-ghost use mathlib.Core.Path.{_≡_};
+use answering::put_whole;
+use cases::Asked;
+use cases::Head;
+use cases::heads::head_of;
+use libc::STDIN_FILENO;
+use output::write_front;
+use reading::read_case;
+ghost use Prim.Native.Nat.{_≤_};
 ghost use lib.ListN.{length};
 
-// What a case asks for.
-pub enum Job {
-    Model,
-    Run,
+// The line that ends a stream out of form.
+fn write_malformed() {
+    write_front(b"malformed\n", 10);
 }
 
-// What follows a head: so many bytes of circuit, and so many values.
-pub struct Asked {
-    pub form: Form,
-    pub job: Job,
-    pub values: u16,
-    pub length: u32,
-}
-
-pub enum Head {
-    Case(Asked),
-    Malformed,
-}
-
-// The bytes that were read and not used yet: those from `from` on, before `to`.
-pub struct Window {
-    pub from: usize,
-    pub to: usize,
-}
-
-// What is left after bytes were passed over, and whether there were as many.
-pub struct Skipped {
-    pub window: Window,
-    pub whole: bool,
-}
-
-// What is no case to answer: a case that was passed over, with what is left; a stream out of form; or its end.
-pub enum Other {
-    Large(Window),
-    Malformed,
-    End,
-}
-
-// What comes next: a case whose circuit and values stand in the window, or something else.
-pub enum Next {
-    Case(Asked, Window),
-    Else(Other),
-}
-
-// How far the program is: what is read and not used, how much of the output is to be written, and whether the stream goes on.
-pub struct Progress {
-    pub window: Window,
-    pub at: usize,
-    pub on: bool,
-}
-
-// A buffer of a mebibyte.
-fn large() -> [u8; 1048576]
-    ensures { λ r. ⌜ 1048576 ≡ length r ⌝ }
+// Reads and answers what follows a head. Answers whether the stream goes on: not where the answer cannot be written.
+fn answer_case(number: u64, asked: Asked, input: &mut [u8], out: &mut [u8]) -> bool
+    requires { ⌜ 7837 ≤ length (now out) ⌝ }
 {
-    [0; 1048576]
+    if read_case(asked, input) {
+        let n = put_whole(number, asked, input, out);
+        return write_front(out, n);
+    }
+    write_malformed();
+    false
 }
 
-// The input has room for the longest case that is answered, 8 bytes of head, 102,656 of circuit and 65,535 values; the output for three of the longest answers
-// (`output::LONGEST`).
+// One case more, or the end: a stream may end before a head.
+fn answer_next(number: u64, input: &mut [u8], out: &mut [u8]) -> bool
+    requires { ⌜ 7837 ≤ length (now out) ⌝ }
+{
+    let mut bytes = [0u8; 8];
+    let n = io::read_full(STDIN_FILENO, &mut bytes);
+    if n == 0 {
+        return false;
+    }
+    let head = head_of(&bytes[..n]);
+    match head {
+        Head::Malformed => {
+            write_malformed();
+            false
+        }
+        Head::Case(asked) => answer_case(number, asked, input, out),
+    }
+}
+
+// All cases of the stream. Nothing says that a stream ends, so the cases are counted.
+fn answer_all(input: &mut [u8], out: &mut [u8])
+    requires { ⌜ 7837 ≤ length (now out) ⌝ }
+{
+    let mut number: u64 = 0;
+    while number < 18446744073709551615 {
+        if !answer_next(number, input, out) {
+            return;
+        }
+        number += 1;
+    }
+}
+
+// The input has room for the longest case that is answered, 102,656 bytes of circuit and 65,535 values; the output for the longest answer: a model's text has at
+// most 3,065 linear entries of 16 bytes, 10,192 pairs of 21, 1,000 input bits of 7 in 64 lines with 23 bytes more, 64 bad states of 28 and a first line of 17,
+// about 273,000 bytes; a run's lines have less than 8,000.
 fn main() {
-    let mut input = large();
-    let mut output = large();
+    let mut input = [0u8; 626936];
+    let mut output = [0u8; 300000];
     answer_all(&mut input, &mut output);
 }

@@ -7,7 +7,7 @@ ghost use lib.ListN.{length};
 ghost use Rattle.circuit.specs.File.{half, word, field, kindByte, kindAt, sectionAt, byte1, nidAt};
 
 // The number of two bytes, low byte first.
-fn half_at(c: &[u8], at: usize) -> u16
+pub fn half_at(c: &[u8], at: usize) -> u16
     requires { ⌜ at + 2 ≤ length (now c) ⌝ }
     ensures { λ r. ⌜ r ≡ half (now (c .entry)) at ⌝ }
 {
@@ -17,7 +17,7 @@ fn half_at(c: &[u8], at: usize) -> u16
 }
 
 // The number of four bytes, low byte first.
-fn word_at(c: &[u8], at: usize) -> u32
+pub fn word_at(c: &[u8], at: usize) -> u32
     requires { ⌜ at + 4 ≤ length (now c) ⌝ }
     ensures { λ r. ⌜ r ≡ word (now (c .entry)) at ⌝ }
 {

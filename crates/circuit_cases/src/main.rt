@@ -8,14 +8,12 @@ use build::Group;
 use build::fill;
 use checks::check;
 use circuit::Checked;
-use circuit::answers::number_of;
-use circuit::answers::place_of;
 use libc::STDIN_FILENO;
 use libc::STDOUT_FILENO;
+use output::write_refusal;
 use text::find;
 use text::is_digit;
 use text::number;
-use text::print_number;
 use text::step;
 
 // A group, and the place after it.
@@ -69,21 +67,17 @@ fn make(s: &[u8], at: usize, bytes: &mut [u8]) -> usize {
 
 fn answer(c: &[u8], gates: usize, qubits: usize, pairs: usize) {
     let checked = check(c, gates, qubits, pairs);
+    io::write_all(STDOUT_FILENO, b" ");
     match checked {
+        Checked::Refused(r) => write_refusal(r),
         Checked::Accepted(n) => {
-            io::write_all(STDOUT_FILENO, b" accepted ");
-            print_number(n.gates);
+            io::write_all(STDOUT_FILENO, b"accepted ");
+            io::print_decimal(STDOUT_FILENO, n.gates as u64);
             io::write_all(STDOUT_FILENO, b" ");
-            print_number(n.bad_states);
-        }
-        Checked::Refused(r) => {
-            io::write_all(STDOUT_FILENO, b" refused ");
-            print_number(number_of(r));
-            io::write_all(STDOUT_FILENO, b" ");
-            print_number(place_of(r));
+            io::print_decimal(STDOUT_FILENO, n.bad_states as u64);
+            io::write_all(STDOUT_FILENO, b"\n");
         }
     }
-    io::write_all(STDOUT_FILENO, b"\n");
 }
 
 // Runs the case that starts at `at`. Returns the start of the next line.

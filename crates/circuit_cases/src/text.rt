@@ -1,5 +1,4 @@
-// Decimal numbers, read and written.
-use libc::STDOUT_FILENO;
+// Decimal numbers, read.
 ghost use mathlib.Core.Path.{_≡_};
 ghost use mathlib.Core.Bool.{true};
 ghost use Prim.Native.Nat.{_<_, _≤_};
@@ -53,23 +52,4 @@ pub fn find(s: &[u8], at: usize, byte: u8) -> usize {
         i += 1;
     }
     i
-}
-
-fn print_digit(n: usize) {
-    let digit = [48 + (n % 10) as u8];
-    io::write_all(STDOUT_FILENO, &digit);
-}
-
-// A number below 10,000.
-pub fn print_number(n: usize) {
-    if 1000 <= n {
-        print_digit(n / 1000);
-    }
-    if 100 <= n {
-        print_digit(n / 100);
-    }
-    if 10 <= n {
-        print_digit(n / 10);
-    }
-    print_digit(n);
 }

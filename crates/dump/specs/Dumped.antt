@@ -2,7 +2,7 @@
 -- Assumes nothing: these are definitions.
 use mathlib.Core.Path.{_≡_, refl, sym, ap, _∙_, subst, subst⁻¹}
 use mathlib.Core.Bool.{Bool, true, false}
-use mathlib.Core.List.{List, _++_, zip}
+use mathlib.Core.List.{List, [], _++_, zip}
 use Prim.Native.Nat.{ℕ, _≤_, _<_}
 use lib.Dec.{ltb}
 use lib.IntN.{ℤ}
@@ -17,7 +17,7 @@ use Rattle.numbering.specs.State.{namesOf}
 use Rattle.qubot.specs.declared.Built.{Built}
 use Rattle.qubot.specs.declared.Built.the-variants.{Done, Refused as Rejected}
 use Rattle.qubot.specs.declared.Finished.{Finished}
-use Rattle.qubot.specs.Built.{Tables, built}
+use Rattle.qubot.specs.Built.{Tables, lent, built}
 use Rattle.text.specs.Text.{layout, sheetBy}
 use Rattle.dump.specs.declared.Dumped.{Dumped}
 use Rattle.dump.specs.declared.Dumped.the-variants.{Text, Refused}
@@ -39,9 +39,12 @@ abbrev pub writtenTo : List ℕ → List ℕ → List ℕ × Dumped
 writtenTo text buf = intoBuffer (ltb (length buf) (length text)) text buf
 
 -- "1 to 9 change no text byte."
+abbrev pub printedBy : List ℕ → List ℕ → Tables → Built → List ℕ × Dumped
+printedBy b buf u (Rejected r) = (buf, Refused r)
+printedBy b buf u (Done f) = writtenTo (textIn b u f) buf
+
 abbrev pub dumpedBy : List ℕ → List ℕ → Tables × Built → Tables × (List ℕ × Dumped)
-dumpedBy b buf (u, Rejected r) = (u, (buf, Refused r))
-dumpedBy b buf (u, Done f) = (u, writtenTo (textIn b u f) buf)
+dumpedBy b buf (u, x) = (u, printedBy b buf u x)
 
 -- The tables, the buffer and the answer, for all bytes, both forms, all tables and all buffers.
 unfoldable pub dumped : List ℕ → Form → Tables → List ℕ → Tables × (List ℕ × Dumped)
@@ -67,14 +70,15 @@ text-as b u f n o e p i =
 
 -- ---- by the build's answer
 
-pub refused-by : (b : List ℕ) (form : Form) (t u : Tables) (buf : List ℕ) (r : Refusal) (x : Built) → (u, x) ≡ built b form t → x ≡ Rejected r → (u, (buf, Refused r)) ≡ dumped b form t buf
-unfolding dumped
-refused-by b form t u buf r x e p = ap (dumpedBy b buf) (ap (λ (y : Built). (u, y)) (sym p) ∙ e)
+-- the origins, the roles and the rows are not printed
+bare : (b buf : List ℕ) (u : Tables) (x : Built) → printedBy b buf (lent (u .qubits) [] [] (u .linear) (u .hasLinear) [] (u .fixed) (u .keys) (u .weights)) x ≡ printedBy b buf u x
+bare b buf u (Rejected r) = refl
+bare b buf u (Done f) = refl
 
-pub done-by : (b : List ℕ) (form : Form) (t u : Tables) (buf : List ℕ) (f : Finished) (x : Built) (w : List ℕ × Dumped) → (u, x) ≡ built b form t → x ≡ Done f
-    → w ≡ writtenTo (textIn b u f) buf → (u, w) ≡ dumped b form t buf
+pub by-build : (b : List ℕ) (form : Form) (t u : Tables) (buf : List ℕ) (x : Built) (w : List ℕ × Dumped) → (u, x) ≡ built b form t
+    → w ≡ printedBy b buf (lent (u .qubits) [] [] (u .linear) (u .hasLinear) [] (u .fixed) (u .keys) (u .weights)) x → (u, w) ≡ dumped b form t buf
 unfolding dumped
-done-by b form t u buf f x w e p h = ap (λ (y : List ℕ × Dumped). (u, y)) h ∙ ap (dumpedBy b buf) (ap (λ (y : Built). (u, y)) (sym p) ∙ e)
+by-build b form t u buf x w e h = ap (λ (y : List ℕ × Dumped). (u, y)) (h ∙ bare b buf u x) ∙ ap (dumpedBy b buf) e
 
 -- ---- A text that was printed lies within the buffer.
 
@@ -86,13 +90,13 @@ inside-buffer : (short : Bool) (text buf : List ℕ) → Inside (intoBuffer shor
 inside-buffer true text buf = tt
 inside-buffer false text buf = omega (arith, length-append text (drop (length text) buf))
 
-inside-by : (b buf : List ℕ) (y : Tables × Built) → Inside (dumpedBy b buf y .1)
-inside-by b buf (u, Rejected r) = tt
-inside-by b buf (u, Done f) = inside-buffer (ltb (length buf) (length (textIn b u f))) (textIn b u f) buf
+inside-by : (b buf : List ℕ) (u : Tables) (x : Built) → Inside (printedBy b buf u x)
+inside-by b buf u (Rejected r) = tt
+inside-by b buf u (Done f) = inside-buffer (ltb (length buf) (length (textIn b u f))) (textIn b u f) buf
 
 pub dumped-inside : (b : List ℕ) (form : Form) (t : Tables) (buf : List ℕ) (x : Tables × (List ℕ × Dumped)) → x ≡ dumped b form t buf → Inside (x .1)
 unfolding dumped
-dumped-inside b form t buf x e = subst⁻¹ (λ (y : Tables × (List ℕ × Dumped)). Inside (y .1)) e (inside-by b buf (built b form t))
+dumped-inside b form t buf x e = subst⁻¹ (λ (y : Tables × (List ℕ × Dumped)). Inside (y .1)) e (inside-by b buf (built b form t .0) (built b form t .1))
 
 pub inside : (b : List ℕ) (form : Form) (t u : Tables) (buf out : List ℕ) (n : ℕ) (x : Dumped) → _≡_ {A = Tables × (List ℕ × Dumped)} (u, (out, x)) (dumped b form t buf) → x ≡ Text n → n ≤ length out
 inside b form t u buf out n x e p = subst (λ (y : Dumped). Inside (out, y)) p (dumped-inside b form t buf (u, (out, x)) e)

@@ -152,6 +152,10 @@ bare l =
       smallWeights = l .smallWeights;
     }
 
-pub left-by : (b : List ℕ) (form : Form) (t u : Tables) (f : Finished) (x : Built) → (u, x) ≡ built b form t → x ≡ Done f
-    → Left b (lent (u .qubits) [] [] (u .linear) (u .hasLinear) [] (u .fixed) (u .keys) (u .weights)) f
-left-by b form t u f x e p = bare (left b form t u f (sym e ∙ ap (λ (y : Built). (u, y)) p))
+-- where a build is done
+abbrev pub LeftBy : List ℕ → Tables → Built → Type 0
+LeftBy b u x = (f : Finished) → x ≡ Done f → Left b u f
+
+pub left-by : (b : List ℕ) (form : Form) (t u : Tables) (x : Built) → (u, x) ≡ built b form t
+    → LeftBy b (lent (u .qubits) [] [] (u .linear) (u .hasLinear) [] (u .fixed) (u .keys) (u .weights)) x
+left-by b form t u x e f p = bare (left b form t u f (sym e ∙ ap (λ (y : Built). (u, y)) p))

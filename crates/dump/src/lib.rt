@@ -10,13 +10,13 @@ use qubot::build;
 use units::Form;
 ghost use mathlib.Core.List.{[], zip};
 ghost use mathlib.Core.Path.{_≡_};
-ghost use Rattle.dump.specs.Left.{Left};
+ghost use Rattle.dump.specs.Left.{Left, LeftBy};
 ghost use Rattle.qubot.specs.Built.{lent};
 ghost use lib.ListN.{length, take};
 ghost use Rattle.circuit.specs.Meaning.{circuitOf};
 ghost use Rattle.text.specs.Text.{layout, sheetBy};
 ghost use Rattle.text.specs.Ready.{Printable};
-ghost use Rattle.dump.specs.Dumped.{textIn, writtenTo, dumped};
+ghost use Rattle.dump.specs.Dumped.{textIn, writtenTo, printedBy, dumped};
 
 // The length of the text in the buffer, or the refusal.
 pub enum Dumped {
@@ -120,6 +120,27 @@ fn print_left(
     Dumped::Text(length)
 }
 
+// Prints what a build left, or gives its refusal.
+fn print_built(
+    circuit: &[u8],
+    built: Built,
+    qubits: &[u16],
+    linear: &[i64],
+    has: &[u8],
+    fixed: &[u8],
+    keys: &[u32],
+    weights: &[i64],
+    buf: &mut [u8],
+) -> Dumped
+    requires { ⌜ LeftBy (now circuit) (lent (now qubits) [] [] (now linear) (now has) [] (now fixed) (now keys) (now weights)) built ⌝ }
+    ensures { λ r. ⌜ (now (buf .exit), r) ≡ printedBy (now (circuit .entry)) (now (buf .entry)) (lent (now (qubits .entry)) [] [] (now (linear .entry)) (now (has .entry)) [] (now (fixed .entry)) (now (keys .entry)) (now (weights .entry))) built ⌝ }
+{
+    match built {
+        Built::Refused(r) => Dumped::Refused(r),
+        Built::Done(f) => print_left(circuit, f, qubits, linear, has, fixed, keys, weights, buf),
+    }
+}
+
 // The text of the model of a circuit, in the form that is asked for, into a buffer: any bytes, any tables, any buffer.
 pub fn dump_model(
     circuit: &[u8],
@@ -150,18 +171,15 @@ pub fn dump_model(
         keys,
         weights,
     );
-    match built {
-        Built::Refused(r) => Dumped::Refused(r),
-        Built::Done(f) => print_left(
-            circuit,
-            f,
-            qubits,
-            linear,
-            has_linear,
-            fixed,
-            keys,
-            weights,
-            buf,
-        ),
-    }
+    print_built(
+        circuit,
+        built,
+        qubits,
+        linear,
+        has_linear,
+        fixed,
+        keys,
+        weights,
+        buf,
+    )
 }

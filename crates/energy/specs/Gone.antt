@@ -47,7 +47,7 @@ apart-without q p (e ∷ s) a = go (touches p (e .0)) (apart-without q p s (a .2
     go true r = r
     go false r = (a .0, a .1, r)
 
-gone-joinLinear : (q p : ℕ) (c : ℤ) (m : Model) → p ≢ q → Gone q m → Gone q (joinLinear p c m)
+pub gone-joinLinear : (q p : ℕ) (c : ℤ) (m : Model) → p ≢ q → Gone q m → Gone q (joinLinear p c m)
 gone-joinLinear q p c m ne g =
     record {
       linear = getD-set-other (m .linear) p q _ (pos 0) (λ e. ne (sym e)) ∙ g .linear;
@@ -56,7 +56,7 @@ gone-joinLinear q p c m ne g =
       pairs = g .pairs;
     }
 
-gone-addLinear : (q p : ℕ) (c : ℤ) (m : Model) → p ≢ q → Gone q m → Gone q (addLinear p c m)
+pub gone-addLinear : (q p : ℕ) (c : ℤ) (m : Model) → p ≢ q → Gone q m → Gone q (addLinear p c m)
 unfolding addLinear
 gone-addLinear q p c m ne g = go (isZero c)
   where
@@ -109,7 +109,8 @@ gone-fix q b m =
       pairs = without-apart q (M .pairs);
     }
 
-gone-later : (q : ℕ) (fs : Fixes) (m : Model) → Gone q m → Gone q (fixAll fs m)
+-- and later fixes do not either
+pub gone-later : (q : ℕ) (fs : Fixes) (m : Model) → Gone q m → Gone q (fixAll fs m)
 unfolding fixAll
 gone-later q [] m g = g
 gone-later q (f ∷ fs) m g = gone-later q fs _ (gone-kept q (f .0) (f .1) m g)

@@ -21,6 +21,8 @@ use Rattle.penalty.specs.Rows.{Slot, Place, singles, twos, rows, rowOf}
 use Rattle.penalty.specs.Small.{offset-small, linear-small, pairs-small}
 use Rattle.energy.specs.Plain.{Setting, Row, wire}
 use Rattle.energy.specs.Model.{Entry, Model, keyOf, low, high, empty, isZero, addOffset, joinLinear, add, joinPair, addLinear, addPair, halves, addLinears, addPairs, place, placeAll, gated, touches, neighbour, give, without, clear, fix, half, quarter, weights, quarters, ends, ising, signed, linearBy, pairsBy, energyBy, energyIn, sizes, mass}
+use Rattle.energy.specs.Sized.{turned}
+use Rattle.energy.specs.Fixing.{give-pairs}
 
 -- ---- lists of coefficients
 
@@ -174,25 +176,10 @@ mass-turn q b e m = go (touches q (e .0))
     go true = omega (arith, mass-addLinear (neighbour q (e .0)) (gated b (e .1)) m, abs-gated b (e .1))
     go false = omega arith
 
-turn-pairs : (q : ℕ) (b : Bool) (e : Entry) (m : Model) → turn q b e m .pairs ≡ m .pairs
-unfolding addLinear
-turn-pairs q b e m = go (touches q (e .0)) (isZero (gated b (e .1)))
-  where
-    go : (t z : Bool) → cond t (cond z m (joinLinear (neighbour q (e .0)) (gated b (e .1)) m)) m .pairs ≡ m .pairs
-    go true true = refl
-    go true false = refl
-    go false z = refl
-
 mass-give : (q : ℕ) (b : Bool) (s : List Entry) (m : Model) → mass (give q b s m) ≤ mass m + given q s
 unfolding give
 mass-give q b [] m = omega arith
 mass-give q b (e ∷ s) m = let r = mass-give q b s (turn q b e m) in omega (arith, mass-turn q b e m)
-
--- the pairs stay in place while their numbers are given
-pub give-pairs : (q : ℕ) (b : Bool) (s : List Entry) (m : Model) → give q b s m .pairs ≡ m .pairs
-unfolding give
-give-pairs q b [] m = refl
-give-pairs q b (e ∷ s) m = give-pairs q b s (turn q b e m) ∙ turn-pairs q b e m
 
 mass-clear : (q : ℕ) (b : Bool) (m : Model) → mass (clear q b m) + given q (m .pairs) ≤ mass m
 unfolding mass
@@ -229,18 +216,6 @@ unfolding ends
 mass-ends [] m = omega arith
 mass-ends (e ∷ s) m =
     omega (arith, mass-ends s (joinLinear (high (e .0)) (e .1) (joinLinear (low (e .0)) (e .1) m)), mass-joinLinear (high (e .0)) (e .1) (joinLinear (low (e .0)) (e .1) m), mass-joinLinear (low (e .0)) (e .1) m)
-
--- the Ising form before each pair's number joins its ends
-abbrev pub turned : Model → Model
-turned m =
-    record {
-      offset = m .offset +ℤ half (sum (m .linear)) +ℤ quarter (sum (weights (m .pairs)));
-      linear = map half (m .linear);
-      hasLinear = m .hasLinear;
-      hasRow = m .hasRow;
-      fixed = m .fixed;
-      pairs = quarters (m .pairs);
-    }
 
 -- there is room for the numbers that join the ends
 pub mass-turned : (m : Model) → mass (turned m) + 2 * sizes (weights (quarters (m .pairs))) ≤ mass m

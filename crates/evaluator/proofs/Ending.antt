@@ -19,7 +19,7 @@ use Rattle.units.specs.declared.Form.{Form}
 use Rattle.numbering.specs.State.{State, qubitOf}
 use Rattle.pairs.specs.Store.{zip}
 use Rattle.store.specs.Tables.{Tables, tables, modelOf}
-use Rattle.evaluator.specs.declared.Run.{Run}
+use Rattle.outcome.specs.declared.Run.{Run}
 use Rattle.values.specs.declared.Stop.{Stop}
 use Rattle.values.specs.declared.Went.{Went}
 use Rattle.values.specs.Need.{Got, table, stopped, went, andThen, each, isTrue, needOf}

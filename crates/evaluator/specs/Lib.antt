@@ -8,3 +8,4 @@ pub mod Laws
 pub mod Accepted
 pub mod Standing
 pub mod Runs
+pub mod Kept

@@ -20,8 +20,8 @@ use Rattle.values.specs.declared.Stop.{Stop}
 use Rattle.values.specs.declared.Stop.the-variants as stop
 use Rattle.circuit.specs.declared.Refusal.{Refusal}
 use Rattle.circuit.specs.declared.Refusal.the-variants.{FewValues, OtherCount, NoQubit, NotUsedUp, DivisorZero, NotGiven}
-use Rattle.evaluator.specs.declared.Outcome.the-variants.{Ran, Refused}
-use Rattle.evaluator.specs.declared.Run.{Run}
+use Rattle.outcome.specs.declared.Outcome.the-variants.{Ran, Refused}
+use Rattle.outcome.specs.declared.Run.{Run}
 use Rattle.values.specs.Need.{Got, table, stopped, andThen, each, isTrue, Net, needOf}
 use Rattle.evaluator.specs.Give.{giveAll}
 

@@ -1,11 +1,11 @@
 // A run: values, energy, the true bad states, the verdict; or the refusal.
-use crate::Outcome;
-use crate::Run;
 use crate::needs::need_all;
 use circuit::Refusal;
 use circuit::records::field_at;
 use circuit::records::nid_at;
 use giving::give_all;
+use outcome::Outcome;
+use outcome::Run;
 use rules::find::qubit_of;
 use store::Totals;
 use store::evaluate::energy_at;

@@ -7,7 +7,8 @@ use Rattle.energy.specs.Model.{Model}
 use Rattle.energy.specs.Clash.{Clash, none, at, clash}
 use Rattle.numbering.specs.State.{State}
 use Rattle.numbering.specs.Numbered.{Outcome, refused, numbered, number}
-use Rattle.modelling.specs.Steps.{fixesOf, finishedOf}
+use Rattle.fixes.specs.Order.{fixesOf}
+use Rattle.modelling.specs.Steps.{finishedOf}
 
 pub data Made : Type 0 where
   -- 8: the gate that already has a qubit when its turn comes

@@ -28,7 +28,8 @@ use Rattle.placing.specs.Laid.{Good, laid}
 use Rattle.placing.specs.Blank.{Blank, pairsOf}
 use Rattle.modelling.specs.declared.Counted.{Counted}
 use Rattle.modelling.specs.declared.Modelled.the-variants.{Model as Made}
-use Rattle.modelling.specs.Steps.{fixesOf, finishedOf}
+use Rattle.fixes.specs.Order.{fixesOf}
+use Rattle.modelling.specs.Steps.{finishedOf}
 use Rattle.modelling.specs.Modelled.{ModelledAs}
 use Rattle.filling.specs.declared.Filled.{Filled}
 use Rattle.filling.specs.declared.Filled.the-variants.{Already, Clashes, Model as Holds}

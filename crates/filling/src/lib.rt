@@ -3,8 +3,9 @@ use circuit::Counts;
 use clear::clear_model;
 use clear::clear_names;
 use modelling::Counted;
-use parts::fill_all;
+use parts::fill_model;
 use parts::is_model;
+use parts::number_names;
 use units::Form;
 use units::Gate;
 use units::Qubit;
@@ -45,10 +46,12 @@ pub fn fill(
     requires { ⌜ Passed (now circuit) k × NameTables (circuitOf (now circuit)) (now qubits) (now origins) (now roles) × ModelTables (circuitOf (now circuit)) (now linear) (now present) (now rows) (now fixed) (now keys) (now weights) ⌝ }
     ensures { λ r. ⌜ (lent (now (qubits .exit)) (now (origins .exit)) (now (roles .exit)) (now (linear .exit)) (now (present .exit)) (now (rows .exit)) (now (fixed .exit)) (now (keys .exit)) (now (weights .exit)), r) ≡ filledBy (circuitOf (now (circuit .entry))) (make form (circuitOf (now (circuit .entry)))) ⌝ }
 {
-    let filled = fill_all(
+    let ended = number_names(circuit, k, qubits, origins, roles);
+    let filled = fill_model(
         circuit,
         form,
         k,
+        ended,
         qubits,
         origins,
         roles,

@@ -9,15 +9,11 @@ use modelling::model::make_model;
 use numbering::Ended;
 use numbering::roots::number;
 use units::Form;
-use units::Qubit;
 ghost use mathlib.Core.Path.{_≡_};
-ghost use Rattle.energy.specs.Clash.{clash};
 ghost use Rattle.circuit.specs.Meaning.{circuitOf};
-ghost use Rattle.numbering.specs.State.{mk};
-ghost use Rattle.numbering.specs.Numbered.{numbered, number};
+ghost use Rattle.numbering.specs.Numbered.{number};
 ghost use Rattle.numbering.specs.Read.{outcomeOf};
-ghost use Rattle.modelling.specs.Steps.{fixesOf};
-ghost use Rattle.filling.specs.Made.{afterClash, make};
+ghost use Rattle.filling.specs.Made.{make};
 ghost use Rattle.filling.specs.Tables.{lent, filledBy, orZeroed, isModel};
 ghost use Rattle.filling.specs.Parts.{Passed, NameTables, ModelTables};
 
@@ -51,12 +47,12 @@ pub fn number_names(
     )
 }
 
-// The model of the numbered circuit, on cleared tables.
+// The model of the circuit, on cleared tables, where the numbering named all its gates.
 pub fn fill_model(
     circuit: &[u8],
     form: Form,
     k: Counts,
-    next: Qubit,
+    ended: Ended,
     qubits: &[u16],
     origins: &[u16],
     roles: &[u8],
@@ -67,74 +63,40 @@ pub fn fill_model(
     keys: &mut [u32],
     weights: &mut [i64],
 ) -> Filled
-    requires { ⌜ Passed (now circuit) k × NameTables (circuitOf (now circuit)) (now qubits) (now origins) (now roles) × ModelTables (circuitOf (now circuit)) (now linear) (now present) (now rows) (now fixed) (now keys) (now weights) × (number (circuitOf (now circuit)) ≡ numbered (mk (now qubits) (now origins) (now roles) (next .0))) ⌝ }
-    ensures { λ r. ⌜ orZeroed (circuitOf (now (circuit .entry))) (lent (now (qubits .entry)) (now (origins .entry)) (now (roles .entry)) (now (linear .exit)) (now (present .exit)) (now (rows .exit)) (now (fixed .exit)) (now (keys .exit)) (now (weights .exit))) r ≡ filledBy (circuitOf (now (circuit .entry))) (afterClash form (circuitOf (now (circuit .entry))) (mk (now (qubits .entry)) (now (origins .entry)) (now (roles .entry)) (next .0)) (clash (fixesOf (circuitOf (now (circuit .entry))) (mk (now (qubits .entry)) (now (origins .entry)) (now (roles .entry)) (next .0))))) ⌝ }
+    requires { ⌜ Passed (now circuit) k × NameTables (circuitOf (now circuit)) (now qubits) (now origins) (now roles) × ModelTables (circuitOf (now circuit)) (now linear) (now present) (now rows) (now fixed) (now keys) (now weights) × (outcomeOf ended (now qubits) (now origins) (now roles) ≡ number (circuitOf (now circuit))) ⌝ }
+    ensures { λ r. ⌜ orZeroed (circuitOf (now (circuit .entry))) (lent (now (qubits .entry)) (now (origins .entry)) (now (roles .entry)) (now (linear .exit)) (now (present .exit)) (now (rows .exit)) (now (fixed .exit)) (now (keys .exit)) (now (weights .exit))) r ≡ filledBy (circuitOf (now (circuit .entry))) (make form (circuitOf (now (circuit .entry)))) ⌝ }
 {
-    clear_model(linear, present, rows, fixed, keys, weights);
-    let from = k.gates + k.list_bits;
-    let at = from + k.bad_states;
-    let states = k.bad_states;
-    let count = k.constraints;
-    let made = make_model(
-        circuit,
-        from,
-        at,
-        states,
-        count,
-        form,
-        qubits,
-        origins,
-        roles,
-        next,
-        linear,
-        present,
-        rows,
-        fixed,
-        keys,
-        weights,
-    );
-    match made {
-        Modelled::Refused(q) => Filled::Clashes(q),
-        Modelled::Model(x) => Filled::Model(next, x),
-    }
-}
-
-// The names and the model.
-pub fn fill_all(
-    circuit: &[u8],
-    form: Form,
-    k: Counts,
-    qubits: &mut [u16],
-    origins: &mut [u16],
-    roles: &mut [u8],
-    linear: &mut [i64],
-    present: &mut [u8],
-    rows: &mut [u8],
-    fixed: &mut [u8],
-    keys: &mut [u32],
-    weights: &mut [i64],
-) -> Filled
-    requires { ⌜ Passed (now circuit) k × NameTables (circuitOf (now circuit)) (now qubits) (now origins) (now roles) × ModelTables (circuitOf (now circuit)) (now linear) (now present) (now rows) (now fixed) (now keys) (now weights) ⌝ }
-    ensures { λ r. ⌜ orZeroed (circuitOf (now (circuit .entry))) (lent (now (qubits .exit)) (now (origins .exit)) (now (roles .exit)) (now (linear .exit)) (now (present .exit)) (now (rows .exit)) (now (fixed .exit)) (now (keys .exit)) (now (weights .exit))) r ≡ filledBy (circuitOf (now (circuit .entry))) (make form (circuitOf (now (circuit .entry)))) ⌝ }
-{
-    let ended = number_names(circuit, k, qubits, origins, roles);
     match ended {
         Ended::Refused(g, _) => Filled::Already(g),
-        Ended::All(next) => fill_model(
-            circuit,
-            form,
-            k,
-            next,
-            qubits,
-            origins,
-            roles,
-            linear,
-            present,
-            rows,
-            fixed,
-            keys,
-            weights,
-        ),
+        Ended::All(next) => {
+            clear_model(linear, present, rows, fixed, keys, weights);
+            let from = k.gates + k.list_bits;
+            let at = from + k.bad_states;
+            let states = k.bad_states;
+            let count = k.constraints;
+            let made = make_model(
+                circuit,
+                from,
+                at,
+                states,
+                count,
+                form,
+                qubits,
+                origins,
+                roles,
+                next,
+                linear,
+                present,
+                rows,
+                fixed,
+                keys,
+                weights,
+            );
+            match made {
+                Modelled::Refused(q) => Filled::Clashes(q),
+                Modelled::Model(x) => Filled::Model(next, x),
+            }
+        }
     }
 }
 

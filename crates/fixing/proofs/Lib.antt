@@ -1,4 +1,3 @@
 -- Lemmas that several proofs cite.
 pub mod Removing
 pub mod Fixed
-pub mod Turns

@@ -1,3 +1,1 @@
--- What fixing and the Ising form ask of the tables.
 pub mod Fixing
-pub mod Turning

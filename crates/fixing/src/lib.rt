@@ -1,3 +1,2 @@
-// What changes a finished model: fixing a qubit, and the Ising form.
+// Fixing a qubit of a finished model.
 pub mod fix;
-pub mod ising;

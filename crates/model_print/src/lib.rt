@@ -34,7 +34,9 @@ fn print_model(circuit: &[u8], form: Form, text: &mut [u8]) {
     );
     match dumped {
         Dumped::Refused(r) => write_refusal(r),
-        Dumped::Text(n) => write_front(text, n),
+        Dumped::Text(n) => {
+            write_front(text, n);
+        }
     }
 }
 

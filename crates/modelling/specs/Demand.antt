@@ -1,7 +1,7 @@
 -- Demand 3 of what is made of a circuit: of every circuit that is well formed and not refused, in either form.
 -- Assumes nothing.
 use mathlib.Core.Path.{_≡_, refl, sym, _∙_, ap, ap₂}
-use mathlib.Core.Bool.{Bool, true, false, cond}
+use mathlib.Core.Bool.{true, cond}
 use mathlib.Core.List.{List, [], _∷_, _++_, map}
 use Prim.Native.Nat.{ℕ, suc, _+_, _-_, _≤_, _<_}
 use native.Mathlib.Omega.{arith}
@@ -10,18 +10,19 @@ use lib.ListN.{length, getD, length-map}
 use borrow.Author.Tests.{lt-ltb, le-ltb}
 use Rattle.units.specs.declared.Form.{Form}
 use Rattle.energy.specs.Circuit.{Circuit, Bad, Constraint}
-use Rattle.energy.specs.Numbering.{AllIn, joined, name, nameIn, top}
+use Rattle.energy.specs.Numbering.{AllIn, joined, nameIn, top}
 use Rattle.energy.specs.Model.{Model, empty, placeAll}
-use Rattle.energy.specs.Fixing.{Fixes, fixAll, OneValue}
-use Rattle.energy.specs.Clash.{Clash, none, at, clash, clash-none}
-use Rattle.energy.specs.Finished.{forced, fixes, inForm, Known, Room, Demand3, demand-3}
+use Rattle.energy.specs.Fixing.{Fixes, fixAll}
+use Rattle.energy.specs.Clash.{none, clash, clash-none}
+use Rattle.energy.specs.Finished.{forced, fixes, inForm, Known, Demand3, demand-3}
 use Rattle.energy.specs.Finished as energy
 use Rattle.numbering.specs.State.{State, slot, qubitOf, namesOf}
 use Rattle.numbering.specs.Laws.{AllHave}
-use Rattle.numbering.specs.Numbered.{Outcome, refused, numbered, badGates, number, rowsOf, namedOf, firstJoin, joinsOf, tail}
+use Rattle.numbering.specs.Numbered.{numbered, badGates, number, namedOf, firstJoin, tail}
 use Rattle.numbering.specs.Tables.{name-is}
 use Rattle.numbering.specs.Finished.{Formed, Finished, finished, numbering, constraints-in, rows-agree, low-inv}
-use Rattle.modelling.specs.Steps.{joinedQubit, fixesOf, placedOf, finishedOf}
+use Rattle.fixes.specs.Order.{joinedQubit, fixesOf}
+use Rattle.modelling.specs.Steps.{placedOf, finishedOf}
 
 joined-last : (q n : ℕ) (ps : List ℕ) → 1 ≤ length ps → joined q n ps ≡ n + length ps - 1
 joined-last q n [] h = absurd (omega arith)

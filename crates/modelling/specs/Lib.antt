@@ -1,4 +1,3 @@
 pub mod Steps
 pub mod Demand
-pub mod Fixing
 pub mod Modelled

@@ -2,46 +2,45 @@
 -- Assumes nothing.
 use mathlib.Core.Path.{_≡_, refl, sym, ap, _∙_, subst}
 use mathlib.Core.Bool.{Bool, true, false, cond}
-use mathlib.Core.List.{List, [], _∷_, _++_, map}
-use Prim.Native.Nat.{ℕ, zero, suc, _+_, _-_, _*_, _^_, _≤_, _<_}
+use mathlib.Core.List.{List, [], _∷_, map}
+use Prim.Native.Nat.{ℕ, suc, _+_, _-_, _^_, _≤_, _<_}
 use native.Mathlib.Omega.{arith}
 use lib.Dec.{eqb, ltb}
-use lib.IntN.{ℤ, pos, _+ℤ_}
+use lib.IntN.{ℤ, _+ℤ_}
 use lib.ListN.{length, getD, take, replicate, length-map}
 use Rattle.units.specs.declared.Form.{Form}
 use Rattle.units.specs.declared.Form.the-variants.{Binary, Ising}
-use Rattle.energy.specs.Circuit.{Circuit, Bad, Constraint}
+use Rattle.energy.specs.Circuit.{Circuit, Constraint}
 use Rattle.energy.specs.Model as energy
-use Rattle.energy.specs.Model.{Entry, Model, Sized, empty, add, placeAll, quarters, ends, ising, variables, weights, sizes, mass}
+use Rattle.energy.specs.Model.{Entry, Model, Sized, empty, add, quarters, ends, ising, variables, weights, mass}
 use Rattle.energy.specs.Mass.{mass-placeAll, mass-empty}
 use Rattle.energy.specs.Fixing.{Fixes, fixAll, placed-fixed, sized-fixAll}
-use Rattle.energy.specs.Clash.{Clash, none, at, clash}
+use Rattle.energy.specs.Clash.{none, at, clash}
 use Rattle.energy.specs.Sized.{turned}
 use Rattle.energy.specs.Finished.{inForm, fixes-within, sized-model}
 use Rattle.circuit.specs.File.{field}
 use Rattle.circuit.specs.Meaning.{circuitOf}
 use Rattle.circuit.specs.Count.{getD-of}
-use Rattle.numbering.specs.State.{State, mk, slot, namesOf}
+use Rattle.numbering.specs.State.{State, namesOf}
 use Rattle.numbering.specs.Numbered.{badGates, rowsFrom, rowsOf, namedOf}
 use Rattle.numbering.specs.Finished.{numbering, constraints-in}
 use Rattle.pairs.specs.Store.{zip, load, canonical}
 use Rattle.store.specs.declared.Totals.{Totals}
 use Rattle.store.specs.Tables.{Tables, tables, modelOf, hold, Ready}
 use Rattle.qubo.specs.Logged.{loggedAll, settled, settled-loggedAll}
-use Rattle.fixing.specs.Turning.{Turning, turning}
+use Rattle.ising.specs.Turning.{Turning, turning}
 use Rattle.modelling.specs.declared.Counted.{Counted}
-use Rattle.modelling.specs.declared.Fixed.{Fixed}
-use Rattle.modelling.specs.declared.Fixed.the-variants.{Done, Clash as Clashes}
 use Rattle.modelling.specs.declared.Modelled.{Modelled}
 use Rattle.modelling.specs.declared.Modelled.the-variants.{Model as Made, Refused}
-use Rattle.modelling.specs.Steps.{fixesOf, placedOf, finishedOf}
+use Rattle.fixes.specs.Order.{fixesOf}
+use Rattle.modelling.specs.Steps.{placedOf, finishedOf}
 use Rattle.modelling.specs.Demand.{fixes-are, placed-is, known-of}
 use Rattle.placing.specs.Laid.{Good, noConstraint}
 use Rattle.placing.specs.Rowed.{Has, has, fin, bad-has, have-past}
-use Rattle.placing.specs.Full.{full, model-full, step-full, length-front}
+use Rattle.placing.specs.Full.{full, model-full, step-full}
 use Rattle.placing.specs.Logs.{rows-names}
 use Rattle.placing.specs.Blank.{pairsOf, Logged, names-small, mass-to, count-to}
-use Rattle.modelling.specs.Fixing.{Holds, Fixable, FixedAs, Reading, fixesBy, fixes-by, fixAll-length, fixAll-mass}
+use Rattle.fixes.specs.Fixing.{Holds, Fixable, Reading, fixesBy, fixes-by, fixAll-length, fixAll-mass}
 
 -- ---- how the whole ends
 

@@ -1,22 +1,9 @@
 // The model of a numbered circuit: the penalties of its gates and joins placed at their qubits, the pairs settled, the qubits fixed, the form turned and the variables counted.
-// The rows are placed by the crate `placing`.
+// The rows are placed by the crate `placing`, the qubits fixed by the crate `fixes`.
 use store::Totals;
 use units::Qubit;
 
-pub mod fixes;
 pub mod model;
-
-// A qubit that is fixed, and the value.
-pub struct Fix {
-    pub qubit: Qubit,
-    pub on: bool,
-}
-
-// All qubits are fixed; or a qubit is to be fixed to two values.
-pub enum Fixed {
-    Done(Totals),
-    Clash(Qubit),
-}
 
 // The offset and the pair count of a finished model, and its variable count.
 pub struct Counted {

@@ -1,9 +1,9 @@
 // From blank tables to the finished model: rows placed and settled, qubits fixed, the form turned, the variables counted.
 use crate::Counted;
-use crate::Fixed;
 use crate::Modelled;
-use crate::fixes::fix_all;
-use fixing::ising::to_ising;
+use fixes::Fixed;
+use fixes::fix_all;
+use ising::to_ising;
 use placing::place_all;
 use qubo::settle::settle;
 use store::Totals;
@@ -21,11 +21,11 @@ ghost use Rattle.circuit.specs.Meaning.{circuitOf};
 ghost use Rattle.numbering.specs.State.{mk, namesOf};
 ghost use Rattle.store.specs.Tables.{tables, modelOf, hold};
 ghost use Rattle.qubo.specs.Logged.{settled};
-ghost use Rattle.fixing.specs.Turning.{Turning};
+ghost use Rattle.ising.specs.Turning.{Turning};
 ghost use Rattle.placing.specs.Laid.{Good};
 ghost use Rattle.modelling.specs.Steps.{placedOf};
 ghost use Rattle.placing.specs.Blank.{Blank, pairsOf};
-ghost use Rattle.modelling.specs.Fixing.{Holds};
+ghost use Rattle.fixes.specs.Fixing.{Holds};
 ghost use Rattle.modelling.specs.Modelled.{Settleable, ModelledAs};
 
 // Settles the log with scratch that may be longer than the tables.

@@ -1,19 +1,21 @@
 // What the programs write to standard output. Where it cannot be written, a line on standard error says why.
 use circuit::Refusal;
-use evaluator::Run;
 use libc::STDOUT_FILENO;
+use outcome::Run;
 use report::print_refusal;
 use report::print_run;
 ghost use Prim.Native.Nat.{_≤_};
 ghost use lib.ListN.{length};
 
-// The first n bytes of a text.
-pub fn write_front(text: &[u8], n: usize)
+// The first n bytes of a text. Answers whether they were written.
+pub fn write_front(text: &[u8], n: usize) -> bool
     requires { ⌜ n ≤ length (now text) ⌝ }
 {
-    if !io::write_all(STDOUT_FILENO, &text[..n]) {
+    let written = io::write_all(STDOUT_FILENO, &text[..n]);
+    if !written {
         os::fail(b"standard output");
     }
+    written
 }
 
 // The line of a refusal.

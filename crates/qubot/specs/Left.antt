@@ -30,9 +30,10 @@ use Rattle.numbering.specs.State.{State, namesOf}
 use Rattle.numbering.specs.Numbered.{Outcome, refused, numbered, number, namedOf, rowsOf}
 use Rattle.numbering.specs.Finished.{Formed, Finished as Named·finished, finished, numbering}
 use Rattle.numbering.specs.Bytes.{prepared}
-use Rattle.modelling.specs.Steps.{fixesOf, placedOf, finishedOf}
+use Rattle.fixes.specs.Order.{fixesOf}
+use Rattle.modelling.specs.Steps.{placedOf, finishedOf}
 use Rattle.placing.specs.Few.{total, rows-few}
-use Rattle.modelling.specs.Fixing.{fixAll-mass, fixAll-length}
+use Rattle.fixes.specs.Fixing.{fixAll-mass, fixAll-length}
 use Rattle.modelling.specs.Modelled.{placed-room, pairs-most}
 use Rattle.modelling.specs.Demand.{finished-is}
 use Rattle.qubot.specs.declared.Built.{Built}

@@ -24,7 +24,8 @@ use Rattle.numbering.specs.State.{State, mk, namesOf}
 use Rattle.numbering.specs.Numbered.{numbered, number, namedOf}
 use Rattle.numbering.specs.Finished.{Finished as Named·finished, finished, numbering}
 use Rattle.pairs.specs.Store.{zip}
-use Rattle.modelling.specs.Steps.{fixesOf, finishedOf}
+use Rattle.fixes.specs.Order.{fixesOf}
+use Rattle.modelling.specs.Steps.{finishedOf}
 use Rattle.modelling.specs.Demand.{demand}
 use Rattle.qubot.specs.declared.Built.the-variants.{Done}
 use Rattle.qubot.specs.declared.Finished.{Finished}

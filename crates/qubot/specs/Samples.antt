@@ -28,7 +28,8 @@ use Rattle.numbering.specs.State.{start}
 use Rattle.numbering.specs.Visit.{oneName, threeNames, take as takeNames, each, process, step, visit, visitOf}
 use Rattle.numbering.specs.Numbered.{visitRoots, joinNames, number, rowsFrom, rowsOf}
 use Rattle.pairs.specs.Store.{zip}
-use Rattle.modelling.specs.Steps.{joinedQubit, fixesOf, placedOf, finishedOf}
+use Rattle.fixes.specs.Order.{joinedQubit, fixesOf}
+use Rattle.modelling.specs.Steps.{placedOf, finishedOf}
 use Rattle.qubot.specs.declared.Built.{Built}
 use Rattle.qubot.specs.declared.Built.the-variants.{Done, Refused}
 use Rattle.qubot.specs.Made.{make}

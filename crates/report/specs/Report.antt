@@ -14,9 +14,9 @@ use Rattle.units.specs.Halves.{energyOf}
 use Rattle.circuit.specs.declared.Refusal.{Refusal}
 use Rattle.circuit.specs.declared.Refusal.the-variants.{NotUsedUp}
 use Rattle.circuit.specs.Refusals.{numberOf, placeOf}
-use Rattle.evaluator.specs.declared.Outcome.{Outcome}
-use Rattle.evaluator.specs.declared.Outcome.the-variants.{Ran, Refused}
-use Rattle.evaluator.specs.declared.Run.{Run}
+use Rattle.outcome.specs.declared.Outcome.{Outcome}
+use Rattle.outcome.specs.declared.Outcome.the-variants.{Ran, Refused}
+use Rattle.outcome.specs.declared.Run.{Run}
 use Rattle.text.specs.Bytes.{bytes}
 use Rattle.text.specs.Decimal.{decimal, digits}
 use Rattle.text.specs.Signed.{signedText}

@@ -3,8 +3,8 @@
 use circuit::Refusal;
 use circuit::answers::number_of;
 use circuit::answers::place_of;
-use evaluator::Outcome;
-use evaluator::Run;
+use outcome::Outcome;
+use outcome::Run;
 use text::write::put;
 use text::write::put_bytes;
 use text::write::put_decimal;

@@ -3,10 +3,10 @@
 use circuit::Refusal;
 use decimals::Value;
 use decimals::read_value;
+use fresh::run::run_fresh;
 use libc::STDERR_FILENO;
 use output::write_refusal;
 use output::write_run;
-use runs::run;
 use units::Form;
 ghost use mathlib.Core.Path.{_≡_};
 ghost use Prim.Native.Nat.{min};
@@ -19,33 +19,10 @@ pub enum Got {
     Failed,
 }
 
-// Runs a circuit of at most 102,656 bytes. An accepted one has at most 1,000 gates and 64 bad states, and these tables have room for all of them: 3,065 qubits and 10,192 pairs.
+// Runs a circuit.
 fn run_circuit(circuit: &[u8], form: Form, inputs: &[i64]) {
-    let mut qubits = [0u16; 1000];
-    let mut origins = [0u16; 3065];
-    let mut roles = [0u8; 3065];
-    let mut linear = [0i64; 3065];
-    let mut has_linear = [0u8; 3065];
-    let mut has_row = [0u8; 3065];
-    let mut fixed = [0u8; 3065];
-    let mut keys = [0u32; 10192];
-    let mut weights = [0i64; 10192];
     let mut values = [0u8; 3065];
-    let r = run(
-        circuit,
-        form,
-        &mut qubits,
-        &mut origins,
-        &mut roles,
-        &mut linear,
-        &mut has_linear,
-        &mut has_row,
-        &mut fixed,
-        &mut keys,
-        &mut weights,
-        &mut values,
-        inputs,
-    );
+    let r = run_fresh(circuit, form, inputs, &mut values);
     write_run(r);
 }
 

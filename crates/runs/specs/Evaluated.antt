@@ -5,14 +5,12 @@ use mathlib.Core.List.{List}
 use Prim.Native.Nat.{ℕ}
 use lib.IntN.{ℤ}
 use Rattle.units.specs.declared.Form.{Form}
-use Rattle.circuit.specs.declared.Refusal.{Refusal}
 use Rattle.circuit.specs.Meaning.{circuitOf}
 use Rattle.qubot.specs.declared.Built.{Built}
 use Rattle.qubot.specs.declared.Built.the-variants.{Done as Finishes, Refused}
 use Rattle.qubot.specs.declared.Finished.{Finished}
 use Rattle.qubot.specs.Built.{Tables, built}
 use Rattle.qubot.specs.Proved.{stateIn, modelIn}
-use Rattle.evaluator.specs.declared.Run.{Run}
 use Rattle.evaluator.specs.Ran.{Done, done, refusal, ran}
 use Rattle.evaluator.specs.Ran as evaluator
 
@@ -22,9 +20,12 @@ builtIn b u f =
     record { circuit = circuitOf b; state = stateIn (circuitOf b) u f; model = modelIn (circuitOf b) u f; form = f .form }
 
 -- "10 to 15, or 17, come after 1 to 9, which change no value or text byte. After 10 to 17 the tables hold the finished build."
+abbrev pub ranBy : List ℕ → List ℤ → List ℕ → Tables → Built → Done
+ranBy b vs values u (Refused r) = done (refusal r) values
+ranBy b vs values u (Finishes f) = ran (builtIn b u f) vs values
+
 abbrev pub evaluatedBy : List ℕ → List ℤ → List ℕ → Tables × Built → Tables × Done
-evaluatedBy b vs values (u, Refused r) = (u, done (refusal r) values)
-evaluatedBy b vs values (u, Finishes f) = (u, ran (builtIn b u f) vs values)
+evaluatedBy b vs values (u, x) = (u, ranBy b vs values u x)
 
 -- The tables, the value bytes and the answer, for all bytes, both forms, all tables, all values of the inputs and all value tables.
 unfoldable pub evaluated : List ℕ → Form → Tables → List ℤ → List ℕ → Tables × Done
@@ -36,13 +37,7 @@ determined b form t vs values x y e f = e ∙ sym f
 
 -- ---- by the build's answer
 
-pub refused-by : (b : List ℕ) (form : Form) (t u : Tables) (vs : List ℤ) (values : List ℕ) (r : Refusal) (x : Built) (y : Run) → (u, x) ≡ built b form t → x ≡ Refused r
-    → y ≡ refusal r → (u, done y values) ≡ evaluated b form t vs values
+pub by-build : (b : List ℕ) (form : Form) (t u : Tables) (vs : List ℤ) (values : List ℕ) (x : Built) (d : Done) → (u, x) ≡ built b form t → d ≡ ranBy b vs values u x
+    → (u, d) ≡ evaluated b form t vs values
 unfolding evaluated
-refused-by b form t u vs values r x y e p h =
-    ap (λ (z : Run). (u, done z values)) h ∙ ap (evaluatedBy b vs values) (ap (λ (z : Built). (u, z)) (sym p) ∙ e)
-
-pub done-by : (b : List ℕ) (form : Form) (t u : Tables) (vs : List ℤ) (values : List ℕ) (f : Finished) (x : Built) (d : Done) → (u, x) ≡ built b form t → x ≡ Finishes f
-    → d ≡ ran (builtIn b u f) vs values → (u, d) ≡ evaluated b form t vs values
-unfolding evaluated
-done-by b form t u vs values f x d e p h = ap (λ (y : Done). (u, y)) h ∙ ap (evaluatedBy b vs values) (ap (λ (y : Built). (u, y)) (sym p) ∙ e)
+by-build b form t u vs values x d e h = ap (λ (y : Done). (u, y)) h ∙ ap (evaluatedBy b vs values) e

@@ -33,7 +33,8 @@ use Rattle.numbering.specs.Finished.{numbering}
 use Rattle.pairs.specs.Store.{zip}
 use Rattle.store.specs.declared.Totals.{Totals}
 use Rattle.store.specs.Tables.{tables}
-use Rattle.modelling.specs.Steps.{fixesOf, finishedOf}
+use Rattle.fixes.specs.Order.{fixesOf}
+use Rattle.modelling.specs.Steps.{finishedOf}
 use Rattle.placing.specs.Blank.{pairsOf}
 use Rattle.qubot.specs.declared.Built.{Built}
 use Rattle.qubot.specs.declared.Built.the-variants.{Done}
@@ -45,7 +46,7 @@ use Rattle.qubot.specs.Proved.{stateIn, state-read}
 use Rattle.evaluator.specs.Layout.{Stacked, Flags, Modeled, RunReady}
 use Rattle.evaluator.specs.Runs.{run-ready}
 use Rattle.evaluator.specs.Ran.{builtOf, ran}
-use Rattle.runs.specs.Beyond.{beyond}
+use Rattle.energy.specs.Beyond.{beyond}
 use Rattle.runs.specs.Cut.{ran-cut}
 use Rattle.runs.specs.Evaluated.{builtIn}
 
@@ -221,8 +222,12 @@ module _ (b : List ℕ) (form : Form) (t : Tables) (sound : Sound b) (s : State)
       }
 
 -- what a build left that is not refused
-pub left-by : (b : List ℕ) (form : Form) (t u : Tables) (f : Finished) (x : Built) → (u, x) ≡ built b form t → x ≡ Done f → Left b u f
-left-by b form t u f x e p = by-done b form t u f (Left b) (sym e ∙ ap (λ (y : Built). (u, y)) p) (left-of b form t)
+-- where a build is done
+abbrev pub LeftBy : List ℕ → Tables → Built → Type 0
+LeftBy b u x = (f : Finished) → x ≡ Done f → Left b u f
+
+pub left-by : (b : List ℕ) (form : Form) (t u : Tables) (x : Built) → (u, x) ≡ built b form t → LeftBy b u x
+left-by b form t u x e f p = by-done b form t u f (Left b) (sym e ∙ ap (λ (y : Built). (u, y)) p) (left-of b form t)
 
 -- ---- what the code lends
 

@@ -31,12 +31,12 @@ use Rattle.qubot.specs.declared.Built.the-variants.{Done as Finishes, Refused a
 use Rattle.qubot.specs.declared.Finished.{Finished}
 use Rattle.qubot.specs.Built.{Tables, built}
 use Rattle.qubot.specs.Proved.{stateIn, modelIn, ProvedOf, build-proved}
-use Rattle.evaluator.specs.declared.Outcome.the-variants.{Ran, Refused}
+use Rattle.outcome.specs.declared.Outcome.the-variants.{Ran, Refused}
 use Rattle.evaluator.specs.Need.{Got, table, stopped}
 use Rattle.evaluator.specs.Ran.{Done, done, refusal, settingOf, finished, choose, unknowns, valued, within, beside, ran}
 use Rattle.evaluator.specs.Ran as evaluator
 use Rattle.runs.specs.Left.{left-by}
-use Rattle.runs.specs.Kept.{valued-length}
+use Rattle.evaluator.specs.Kept.{valued-length}
 use Rattle.runs.specs.Evaluated.{builtIn, evaluatedBy, evaluated}
 
 -- ---- the statement
@@ -154,7 +154,7 @@ module _ (b : List ℕ) (form : Form) (t u : Tables) (f : Finished) (bu : built 
     where
       below : nameIn nd g < nd .count
       below =
-          let l = left-by b form t u f (Finishes f) (sym bu) refl in
+          let l = left-by b form t u (Finishes f) (sym bu) f refl in
           name-below (nd .count) nd (p .names) (record { fits = omega arith; names = omega (arith, l .names, l .few) }) g i
 
       zero : binaryEnergy τ (energy.model (namesOf (circuitOf b)) nd) ≡ pos 0

@@ -26,11 +26,12 @@ use Rattle.circuit.specs.Samples.{bytesP}
 use Rattle.numbering.specs.State.{start}
 use Rattle.numbering.specs.Visit.{oneName, threeNames, take as takeNames, each as visitEach, process, step as visitStep, visit, visitOf}
 use Rattle.numbering.specs.Numbered.{visitRoots, joinNames, number, rowsFrom, rowsOf}
-use Rattle.modelling.specs.Steps.{joinedQubit, fixesOf, placedOf, finishedOf}
+use Rattle.fixes.specs.Order.{joinedQubit, fixesOf}
+use Rattle.modelling.specs.Steps.{placedOf, finishedOf}
 use Rattle.qubot.specs.Made.{make}
 use Rattle.qubot.specs.Built.{Tables, lent, built}
-use Rattle.evaluator.specs.declared.Outcome.{Outcome}
-use Rattle.evaluator.specs.declared.Outcome.the-variants.{Ran, Refused}
+use Rattle.outcome.specs.declared.Outcome.{Outcome}
+use Rattle.outcome.specs.declared.Outcome.the-variants.{Ran, Refused}
 use Rattle.rules.specs.Rules.{lawOf, depth}
 use Rattle.evaluator.specs.Need.{each, number as numberIn, settle, follow, step, need, needOf}
 use Rattle.evaluator.specs.Give.{giveBits, giveAll}

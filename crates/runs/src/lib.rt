@@ -5,6 +5,7 @@ use circuit::lists::input_starts;
 use circuit::lists::list_starts;
 use evaluator::answer::refused;
 use evaluator::answer::run_on;
+use outcome::Run;
 use qubot::Built;
 use qubot::Finished;
 use qubot::build;
@@ -15,8 +16,8 @@ ghost use Rattle.circuit.specs.Check.{countsOf};
 ghost use Rattle.circuit.specs.Starts.{startsOf};
 ghost use Rattle.qubot.specs.Built.{lent};
 ghost use Rattle.evaluator.specs.Ran.{done, ran};
-ghost use Rattle.runs.specs.Left.{Left};
-ghost use Rattle.runs.specs.Evaluated.{builtIn, evaluated};
+ghost use Rattle.runs.specs.Left.{Left, LeftBy};
+ghost use Rattle.runs.specs.Evaluated.{builtIn, ranBy, evaluated};
 
 // Lends a run the entries in use of the tables that a build left.
 fn run_parts(
@@ -36,7 +37,7 @@ fn run_parts(
     weights: &[i64],
     values: &mut [u8],
     inputs: &[i64],
-) -> evaluator::Run
+) -> Run
     requires { ⌜ Left (now circuit) (lent (now qubits) (now origins) (now roles) (now linear) (now «has_linear») (now «has_row») (now fixed) (now keys) (now weights)) f × (k ≡ countsOf (now circuit)) × (now starts ≡ startsOf (now circuit) 20) × (now «inputs_from» ≡ startsOf (now circuit) 23) ⌝ }
     ensures { λ r. ⌜ done r (now (values .exit)) ≡ ran (builtIn (now (circuit .entry)) (lent (now (qubits .entry)) (now (origins .entry)) (now (roles .entry)) (now (linear .entry)) (now («has_linear» .entry)) (now («has_row» .entry)) (now (fixed .entry)) (now (keys .entry)) (now (weights .entry))) f) (now (inputs .entry)) (now (values .entry)) ⌝ }
 {
@@ -91,7 +92,7 @@ fn run_left(
     weights: &[i64],
     values: &mut [u8],
     inputs: &[i64],
-) -> evaluator::Run
+) -> Run
     requires { ⌜ Left (now circuit) (lent (now qubits) (now origins) (now roles) (now linear) (now «has_linear») (now «has_row») (now fixed) (now keys) (now weights)) f ⌝ }
     ensures { λ r. ⌜ done r (now (values .exit)) ≡ ran (builtIn (now (circuit .entry)) (lent (now (qubits .entry)) (now (origins .entry)) (now (roles .entry)) (now (linear .entry)) (now («has_linear» .entry)) (now («has_row» .entry)) (now (fixed .entry)) (now (keys .entry)) (now (weights .entry))) f) (now (inputs .entry)) (now (values .entry)) ⌝ }
 {
@@ -120,37 +121,25 @@ fn run_left(
     )
 }
 
-// A run: builds, then gives the inputs their values. Any bytes, any tables, any values.
-pub fn run(
+// Runs on what a build left, or gives its refusal.
+fn run_built(
     circuit: &[u8],
-    form: Form,
-    qubits: &mut [u16],
-    origins: &mut [u16],
-    roles: &mut [u8],
-    linear: &mut [i64],
-    has_linear: &mut [u8],
-    has_row: &mut [u8],
-    fixed: &mut [u8],
-    keys: &mut [u32],
-    weights: &mut [i64],
+    built: Built,
+    qubits: &[u16],
+    origins: &[u16],
+    roles: &[u8],
+    linear: &[i64],
+    has_linear: &[u8],
+    has_row: &[u8],
+    fixed: &[u8],
+    keys: &[u32],
+    weights: &[i64],
     values: &mut [u8],
     inputs: &[i64],
-) -> evaluator::Run
-    ensures { λ r. ⌜ (lent (now (qubits .exit)) (now (origins .exit)) (now (roles .exit)) (now (linear .exit)) (now («has_linear» .exit)) (now («has_row» .exit)) (now (fixed .exit)) (now (keys .exit)) (now (weights .exit)), done r (now (values .exit))) ≡ evaluated (now (circuit .entry)) form (lent (now (qubits .entry)) (now (origins .entry)) (now (roles .entry)) (now (linear .entry)) (now («has_linear» .entry)) (now («has_row» .entry)) (now (fixed .entry)) (now (keys .entry)) (now (weights .entry))) (now (inputs .entry)) (now (values .entry)) ⌝ }
+) -> Run
+    requires { ⌜ LeftBy (now circuit) (lent (now qubits) (now origins) (now roles) (now linear) (now «has_linear») (now «has_row») (now fixed) (now keys) (now weights)) built ⌝ }
+    ensures { λ r. ⌜ done r (now (values .exit)) ≡ ranBy (now (circuit .entry)) (now (inputs .entry)) (now (values .entry)) (lent (now (qubits .entry)) (now (origins .entry)) (now (roles .entry)) (now (linear .entry)) (now («has_linear» .entry)) (now («has_row» .entry)) (now (fixed .entry)) (now (keys .entry)) (now (weights .entry))) built ⌝ }
 {
-    let built = build(
-        circuit,
-        form,
-        qubits,
-        origins,
-        roles,
-        linear,
-        has_linear,
-        has_row,
-        fixed,
-        keys,
-        weights,
-    );
     match built {
         Built::Refused(r) => refused(r),
         Built::Done(f) => run_left(
@@ -169,4 +158,52 @@ pub fn run(
             inputs,
         ),
     }
+}
+
+// A run: builds, then gives the inputs their values. Any bytes, any tables, any values.
+pub fn run(
+    circuit: &[u8],
+    form: Form,
+    qubits: &mut [u16],
+    origins: &mut [u16],
+    roles: &mut [u8],
+    linear: &mut [i64],
+    has_linear: &mut [u8],
+    has_row: &mut [u8],
+    fixed: &mut [u8],
+    keys: &mut [u32],
+    weights: &mut [i64],
+    values: &mut [u8],
+    inputs: &[i64],
+) -> Run
+    ensures { λ r. ⌜ (lent (now (qubits .exit)) (now (origins .exit)) (now (roles .exit)) (now (linear .exit)) (now («has_linear» .exit)) (now («has_row» .exit)) (now (fixed .exit)) (now (keys .exit)) (now (weights .exit)), done r (now (values .exit))) ≡ evaluated (now (circuit .entry)) form (lent (now (qubits .entry)) (now (origins .entry)) (now (roles .entry)) (now (linear .entry)) (now («has_linear» .entry)) (now («has_row» .entry)) (now (fixed .entry)) (now (keys .entry)) (now (weights .entry))) (now (inputs .entry)) (now (values .entry)) ⌝ }
+{
+    let built = build(
+        circuit,
+        form,
+        qubits,
+        origins,
+        roles,
+        linear,
+        has_linear,
+        has_row,
+        fixed,
+        keys,
+        weights,
+    );
+    run_built(
+        circuit,
+        built,
+        qubits,
+        origins,
+        roles,
+        linear,
+        has_linear,
+        has_row,
+        fixed,
+        keys,
+        weights,
+        values,
+        inputs,
+    )
 }

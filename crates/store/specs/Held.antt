@@ -10,7 +10,9 @@ use lib.IntN.{ℤ}
 use lib.ListN.{length, take, drop, replicate, length-take}
 use lib.Seq.{drop-append-seam}
 use Rattle.energy.specs.Model.{Entry, Model, Sized, low, high, joinLinear, touches, without, fix, quarters, ising, ends, mass}
-use Rattle.energy.specs.Mass.{turned, mass-fix, mass-ising, give-pairs}
+use Rattle.energy.specs.Mass.{mass-fix, mass-ising}
+use Rattle.energy.specs.Sized.{turned}
+use Rattle.energy.specs.Fixing.{give-pairs}
 use Rattle.energy.specs.Sized.{sized-fix, sized-ising}
 use Rattle.pairs.specs.Store.{none}
 use Rattle.pairs.specs.Over.{take-over, length-over, over-zeros}

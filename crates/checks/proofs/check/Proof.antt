@@ -1,4 +1,4 @@
--- `check::check` meets its contract, by what its calls ensure.
+-- `checks::check` meets its contract, by what its calls ensure.
 -- Assumes nothing.
 use mathlib.Core.Path.{sym, ap, _∙_}
 use Rattle.circuit.specs.Check.{tooMany}

@@ -1,4 +1,4 @@
--- `check::check_room` meets its contract, by its two tests.
+-- `checks::check_room` meets its contract, by its two tests.
 -- Assumes nothing.
 use mathlib.Core.Path.{sym, _∙_}
 use Rattle.checks.proofs.Checks.{no-bad, room-short, room-enough}

@@ -1,11 +1,19 @@
--- `dump::dump_model` meets its contract: the build's refusal, or the text of what the build left.
+-- `dump::dump_model` meets its contract: the build, and then what it left is printed.
 -- Assumes nothing.
-use Rattle.dump.specs.Dumped.{refused-by, done-by}
-use Rattle.dump.specs.Left.{left-by}
-use Rattle.qubot.specs.Built.{Tables, lent}
+use mathlib.Core.Path.{_≡_}
+use mathlib.Core.List.{List, []}
+use Prim.Native.Nat.{ℕ}
 use borrow.Author.Needs.{needs}
+use Rattle.qubot.specs.Built.{Tables, lent}
+use Rattle.dump.specs.declared.Dumped.{Dumped}
+use Rattle.dump.specs.Dumped.{printedBy, dumped, by-build}
+use Rattle.dump.specs.Left.{LeftBy, left-by}
 use Rattle.dump.proofs.dump_model.Statement.{statement}
 use Rattle.dump.proofs.dump_model.Tie as tie
+
+-- the function's entry, from after the build
+abbrev start : tie.After-build → tie.Start
+start m = m .before .before .before .before .before .before .before .before .before .before .before .before .before .before .before .before .before .before .before
 
 -- the tables as they were lent
 abbrev entered : tie.Start → Tables
@@ -15,101 +23,81 @@ entered s =
     (s .args .keys .now)
     (s .args .weights .now)
 
+-- the tables as the build left them
+abbrev left : tie.After-build → Tables
+left m =
+    lent (m .build .last .1 .1 .0) (m .build .last .1 .1 .1 .0) (m .build .last .1 .1 .1 .1 .0) (m .build .last .1 .1 .1 .1 .1 .0) (m .build .last .1 .1 .1 .1 .1 .1 .0)
+    (m .build .last .1 .1 .1 .1 .1 .1 .1 .0)
+    (m .build .last .1 .1 .1 .1 .1 .1 .1 .1 .0)
+    (m .build .last .1 .1 .1 .1 .1 .1 .1 .1 .1 .0)
+    (m .build .last .1 .1 .1 .1 .1 .1 .1 .1 .1 .1 .0)
+
+-- those of them that are printed
+abbrev printed : tie.After-build → Tables
+printed m =
+    lent (m .build .last .1 .1 .0) [] [] (m .build .last .1 .1 .1 .1 .1 .0) (m .build .last .1 .1 .1 .1 .1 .1 .0) []
+    (m .build .last .1 .1 .1 .1 .1 .1 .1 .1 .0)
+    (m .build .last .1 .1 .1 .1 .1 .1 .1 .1 .1 .0)
+    (m .build .last .1 .1 .1 .1 .1 .1 .1 .1 .1 .1 .0)
+
+-- what follows from the build's answer
+fit : (m : tie.After-build) → LeftBy (start m .args .circuit .now) (printed m) (m .build .result)
+fit m = left-by (start m .args .circuit .now) (start m .args .form) (entered (start m)) (left m) (m .build .result) (m .build .ensures)
+
+answered : (m : tie.After-build) (w : List ℕ × Dumped) → w ≡ printedBy (start m .args .circuit .now) (start m .args .buf .now) (printed m) (m .build .result)
+    → (left m, w) ≡ dumped (start m .args .circuit .now) (start m .args .form) (entered (start m)) (start m .args .buf .now)
+answered m w e =
+    by-build (start m .args .circuit .now) (start m .args .form) (entered (start m)) (left m) (start m .args .buf .now) (m .build .result) w (m .build .ensures) e
+
 build-requires : tie.Need-build-requires
 build-requires c κs = search needs
 
-enum-known-built : tie.Need-enum-known-built
-enum-known-built c = search needs
+print-built-requires : tie.Need-print-built-requires
+print-built-requires c κs = fit (c .before .before .before .before .before .before .before .before .before .before .before .before .before .before .before .before .before .before .before .before .before .before .before)
 
-enum-known-built-2 : tie.Need-enum-known-built-2
-enum-known-built-2 c = search needs
-
-print-left-requires : tie.Need-print-left-requires
-print-left-requires c κs =
-    let made = c .before .before .before .before .before .before .before .before .before .before .before .before .before .before .before .before .before .before .before .before .before .before .before .before .before .before in
-    let start = made .before .before .before .before .before .before .before .before .before .before .before .before .before .before .before .before .before .before .before in
-    left-by (start .args .circuit .now) (start .args .form) (entered start) _ _ (made .build .result) (made .build .ensures) (c .before .before .before .before .before .before .before .before .built2 .given .1)
+-- after the build, from the end
+abbrev built : tie.After-slice-known16 → tie.After-build
+built c = c .before .before .before .before .before .before .before .before .before .before .before .before .before .before .before .before .before .before .before .before .before .before .before .before .before .before
 
 same-length : tie.Need-same-length
-same-length c = search needs
+same-length c = built c .build .kept .1 .1 .0
 
 same-length-2 : tie.Need-same-length-2
-same-length-2 c = search needs
+same-length-2 c = built c .build .kept .1 .1 .1 .0
 
 same-length-3 : tie.Need-same-length-3
-same-length-3 c = search needs
+same-length-3 c = built c .build .kept .1 .1 .1 .1 .0
 
 same-length-4 : tie.Need-same-length-4
-same-length-4 c = search needs
+same-length-4 c = built c .build .kept .1 .1 .1 .1 .1 .0
 
 same-length-5 : tie.Need-same-length-5
-same-length-5 c = search needs
+same-length-5 c = built c .build .kept .1 .1 .1 .1 .1 .1 .0
 
 same-length-6 : tie.Need-same-length-6
-same-length-6 c = search needs
+same-length-6 c = built c .build .kept .1 .1 .1 .1 .1 .1 .1 .0
 
 same-length-7 : tie.Need-same-length-7
-same-length-7 c = search needs
+same-length-7 c = built c .build .kept .1 .1 .1 .1 .1 .1 .1 .1 .0
 
 same-length-8 : tie.Need-same-length-8
-same-length-8 c = search needs
+same-length-8 c = built c .build .kept .1 .1 .1 .1 .1 .1 .1 .1 .1 .0
 
 same-length-9 : tie.Need-same-length-9
-same-length-9 c = search needs
-
-returns : tie.Need-returns
-returns c =
-    let made = c .before .before .before .before .before .before .before .before .before .before .before .before .before .before .before .before .before .before .before in
-    let start = made .before .before .before .before .before .before .before .before .before .before .before .before .before .before .before .before .before .before .before in
-    refused-by (start .args .circuit .now) (start .args .form) (entered start) _ (start .args .buf .now) _ (made .build .result) (made .build .ensures)
-    (c .before .built .given .1)
+same-length-9 c = built c .build .kept .1 .1 .1 .1 .1 .1 .1 .1 .1 .1 .0
 
 same-length-10 : tie.Need-same-length-10
 same-length-10 c = search needs
 
-same-length-11 : tie.Need-same-length-11
-same-length-11 c = search needs
-
-same-length-12 : tie.Need-same-length-12
-same-length-12 c = search needs
-
-same-length-13 : tie.Need-same-length-13
-same-length-13 c = search needs
-
-same-length-14 : tie.Need-same-length-14
-same-length-14 c = search needs
-
-same-length-15 : tie.Need-same-length-15
-same-length-15 c = search needs
-
-same-length-16 : tie.Need-same-length-16
-same-length-16 c = search needs
-
-same-length-17 : tie.Need-same-length-17
-same-length-17 c = search needs
-
-same-length-18 : tie.Need-same-length-18
-same-length-18 c = search needs
-
-same-length-19 : tie.Need-same-length-19
-same-length-19 c = search needs
-
-returns-2 : tie.Need-returns-2
-returns-2 c =
-    let made = c .before .before .before .before .before .before .before .before .before .before .before .before .before .before .before .before .before .before .before .before .before .before .before .before .before .before .before .before .before in
-    let start = made .before .before .before .before .before .before .before .before .before .before .before .before .before .before .before .before .before .before .before in
-    done-by (start .args .circuit .now) (start .args .form) (entered start) _ (start .args .buf .now) _ (made .build .result) _ (made .build .ensures)
-    (c .before .before .before .before .before .before .before .before .before .before .before .built2 .given .1)
-    (c .before .before .print-left .ensures)
+returns : tie.Need-returns
+returns c = answered (built c) _ (c .before .before .print-built .ensures)
 
 pub dump-model-spec : {M : Type 1} → statement M
 dump-model-spec =
     tie.close
     (tie.spec
     build-requires
-    enum-known-built
-    enum-known-built-2
-    print-left-requires
+    print-built-requires
     same-length
     same-length-2
     same-length-3
@@ -119,15 +107,5 @@ dump-model-spec =
     same-length-7
     same-length-8
     same-length-9
-    returns
     same-length-10
-    same-length-11
-    same-length-12
-    same-length-13
-    same-length-14
-    same-length-15
-    same-length-16
-    same-length-17
-    same-length-18
-    same-length-19
-    returns-2)
+    returns)

@@ -1,4 +1,4 @@
--- `model::put_circuit` meets its contract.
+-- `printing::put_circuit` meets its contract.
 -- Assumes nothing.
 use mathlib.Core.Path.{_≡_, ap, _∙_}
 use mathlib.Core.List.{List}

@@ -5,8 +5,8 @@ use Prim.Native.Nat.{ℕ, min}
 use native.Mathlib.Omega.{arith}
 use lib.ListN.{take}
 use Rattle.text.specs.Paste.{printed-as}
-use Rattle.evaluator.specs.declared.Outcome.{Outcome}
-use Rattle.evaluator.specs.declared.Run.{Run}
+use Rattle.outcome.specs.declared.Outcome.{Outcome}
+use Rattle.outcome.specs.declared.Run.{Run}
 use Rattle.report.specs.Report.{runLines, outcomeLines}
 use borrow.Author.Needs.{needs}
 use Rattle.report.proofs.print_run.Statement.{statement}

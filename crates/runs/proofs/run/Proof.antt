@@ -1,11 +1,17 @@
--- `runs::run` meets its contract: the build's refusal, or the run on what the build left.
+-- `runs::run` meets its contract: the build, and then the run on what it left.
 -- Assumes nothing.
+use mathlib.Core.Path.{_≡_}
 use borrow.Author.Needs.{needs}
 use Rattle.qubot.specs.Built.{Tables, lent}
-use Rattle.runs.specs.Evaluated.{refused-by, done-by}
-use Rattle.runs.specs.Left.{left-by}
+use Rattle.evaluator.specs.Ran.{Done}
+use Rattle.runs.specs.Evaluated.{ranBy, evaluated, by-build}
+use Rattle.runs.specs.Left.{LeftBy, left-by}
 use Rattle.runs.proofs.run.Statement.{statement}
 use Rattle.runs.proofs.run.Tie as tie
+
+-- the function's entry, from after the build
+abbrev start : tie.After-build → tie.Start
+start m = m .before .before .before .before .before .before .before .before .before .before .before .before .before .before .before .before .before .before .before
 
 -- the tables as they were lent
 abbrev entered : tie.Start → Tables
@@ -15,104 +21,75 @@ entered s =
     (s .args .keys .now)
     (s .args .weights .now)
 
+-- the tables as the build left them
+abbrev left : tie.After-build → Tables
+left m =
+    lent (m .build .last .1 .1 .0) (m .build .last .1 .1 .1 .0) (m .build .last .1 .1 .1 .1 .0) (m .build .last .1 .1 .1 .1 .1 .0) (m .build .last .1 .1 .1 .1 .1 .1 .0)
+    (m .build .last .1 .1 .1 .1 .1 .1 .1 .0)
+    (m .build .last .1 .1 .1 .1 .1 .1 .1 .1 .0)
+    (m .build .last .1 .1 .1 .1 .1 .1 .1 .1 .1 .0)
+    (m .build .last .1 .1 .1 .1 .1 .1 .1 .1 .1 .1 .0)
+
+-- what follows from the build's answer
+fit : (m : tie.After-build) → LeftBy (start m .args .circuit .now) (left m) (m .build .result)
+fit m = left-by (start m .args .circuit .now) (start m .args .form) (entered (start m)) (left m) (m .build .result) (m .build .ensures)
+
+answered : (m : tie.After-build) (d : Done) → d ≡ ranBy (start m .args .circuit .now) (start m .args .inputs .now) (start m .args .values .now) (left m) (m .build .result)
+    → (left m, d) ≡ evaluated (start m .args .circuit .now) (start m .args .form) (entered (start m)) (start m .args .inputs .now) (start m .args .values .now)
+answered m d e =
+    by-build (start m .args .circuit .now) (start m .args .form) (entered (start m)) (left m) (start m .args .inputs .now) (start m .args .values .now) (m .build .result) d
+    (m .build .ensures)
+    e
+
 build-requires : tie.Need-build-requires
 build-requires c κs = search needs
 
-enum-known-built : tie.Need-enum-known-built
-enum-known-built c = search needs
+run-built-requires : tie.Need-run-built-requires
+run-built-requires c κs = fit (c .before .before .before .before .before .before .before .before .before .before .before .before .before .before .before .before .before .before .before .before .before .before .before .before .before .before)
 
-refused-requires : tie.Need-refused-requires
-refused-requires c κs = search needs
-
-enum-known-built-2 : tie.Need-enum-known-built-2
-enum-known-built-2 c = search needs
-
-run-left-requires : tie.Need-run-left-requires
-run-left-requires c κs =
-    let made = c .before .before .before .before .before .before .before .before .before .before .before .before .before .before .before .before .before .before .before .before .before .before .before .before .before .before .before .before .before in
-    let start = made .before .before .before .before .before .before .before .before .before .before .before .before .before .before .before .before .before .before .before in
-    left-by (start .args .circuit .now) (start .args .form) (entered start) _ _ (made .build .result) (made .build .ensures) (c .before .before .before .before .before .before .before .before .before .before .before .built2 .given .1)
+-- after the build, from the end
+abbrev built : tie.After-slice-known16 → tie.After-build
+built c = c .before .before .before .before .before .before .before .before .before .before .before .before .before .before .before .before .before .before .before .before .before .before .before .before .before .before .before .before .before
 
 same-length : tie.Need-same-length
-same-length c = search needs
+same-length c = built c .build .kept .1 .1 .0
 
 same-length-2 : tie.Need-same-length-2
-same-length-2 c = search needs
+same-length-2 c = built c .build .kept .1 .1 .1 .0
 
 same-length-3 : tie.Need-same-length-3
-same-length-3 c = search needs
+same-length-3 c = built c .build .kept .1 .1 .1 .1 .0
 
 same-length-4 : tie.Need-same-length-4
-same-length-4 c = search needs
+same-length-4 c = built c .build .kept .1 .1 .1 .1 .1 .0
 
 same-length-5 : tie.Need-same-length-5
-same-length-5 c = search needs
+same-length-5 c = built c .build .kept .1 .1 .1 .1 .1 .1 .0
 
 same-length-6 : tie.Need-same-length-6
-same-length-6 c = search needs
+same-length-6 c = built c .build .kept .1 .1 .1 .1 .1 .1 .1 .0
 
 same-length-7 : tie.Need-same-length-7
-same-length-7 c = search needs
+same-length-7 c = built c .build .kept .1 .1 .1 .1 .1 .1 .1 .1 .0
 
 same-length-8 : tie.Need-same-length-8
-same-length-8 c = search needs
+same-length-8 c = built c .build .kept .1 .1 .1 .1 .1 .1 .1 .1 .1 .0
 
 same-length-9 : tie.Need-same-length-9
-same-length-9 c = search needs
-
-returns : tie.Need-returns
-returns c =
-    let made = c .before .before .before .before .before .before .before .before .before .before .before .before .before .before .before .before .before .before .before .before in
-    let start = made .before .before .before .before .before .before .before .before .before .before .before .before .before .before .before .before .before .before .before in
-    refused-by (start .args .circuit .now) (start .args .form) (entered start) _ (start .args .inputs .now) (start .args .values .now) _ (made .build .result) _ (made .build .ensures)
-    (c .before .before .built .given .1)
-    (c .refused .ensures)
+same-length-9 c = built c .build .kept .1 .1 .1 .1 .1 .1 .1 .1 .1 .1 .0
 
 same-length-10 : tie.Need-same-length-10
-same-length-10 c = c .before .before .before .before .before .before .before .before .before .before .before .before .before .before .before .before .before .before .before .before .before .before .before .before .before .before .before .before .before .before .before .before .build .kept .1 .1 .0
+same-length-10 c = search needs
 
-same-length-11 : tie.Need-same-length-11
-same-length-11 c = c .before .before .before .before .before .before .before .before .before .before .before .before .before .before .before .before .before .before .before .before .before .before .before .before .before .before .before .before .before .before .before .before .build .kept .1 .1 .1 .0
-
-same-length-12 : tie.Need-same-length-12
-same-length-12 c = c .before .before .before .before .before .before .before .before .before .before .before .before .before .before .before .before .before .before .before .before .before .before .before .before .before .before .before .before .before .before .before .before .build .kept .1 .1 .1 .1 .0
-
-same-length-13 : tie.Need-same-length-13
-same-length-13 c = c .before .before .before .before .before .before .before .before .before .before .before .before .before .before .before .before .before .before .before .before .before .before .before .before .before .before .before .before .before .before .before .before .build .kept .1 .1 .1 .1 .1 .0
-
-same-length-14 : tie.Need-same-length-14
-same-length-14 c = c .before .before .before .before .before .before .before .before .before .before .before .before .before .before .before .before .before .before .before .before .before .before .before .before .before .before .before .before .before .before .before .before .build .kept .1 .1 .1 .1 .1 .1 .0
-
-same-length-15 : tie.Need-same-length-15
-same-length-15 c = search needs
-
-same-length-16 : tie.Need-same-length-16
-same-length-16 c = search needs
-
-same-length-17 : tie.Need-same-length-17
-same-length-17 c = search needs
-
-same-length-18 : tie.Need-same-length-18
-same-length-18 c = search needs
-
-same-length-19 : tie.Need-same-length-19
-same-length-19 c = search needs
-
-returns-2 : tie.Need-returns-2
-returns-2 c =
-    let made = c .before .before .before .before .before .before .before .before .before .before .before .before .before .before .before .before .before .before .before .before .before .before .before .before .before .before .before .before .before .before .before .before in
-    let start = made .before .before .before .before .before .before .before .before .before .before .before .before .before .before .before .before .before .before .before in
-    done-by (start .args .circuit .now) (start .args .form) (entered start) _ (start .args .inputs .now) (start .args .values .now) _ (made .build .result) _ (made .build .ensures) (c .before .before .before .before .before .before .before .before .before .before .before .before .before .before .built2 .given .1) (c .before .before .run-left .ensures)
+returns : tie.Need-returns
+returns c = answered (built c) _ (c .before .before .run-built .ensures)
 
 pub run-spec : {M : Type 1} → statement M
 run-spec =
     tie.close
     (tie.spec
     build-requires
-    enum-known-built
-    refused-requires
-    enum-known-built-2
-    run-left-requires
+    run-built-requires
     same-length
     same-length-2
     same-length-3
@@ -122,15 +99,5 @@ run-spec =
     same-length-7
     same-length-8
     same-length-9
-    returns
     same-length-10
-    same-length-11
-    same-length-12
-    same-length-13
-    same-length-14
-    same-length-15
-    same-length-16
-    same-length-17
-    same-length-18
-    same-length-19
-    returns-2)
+    returns)

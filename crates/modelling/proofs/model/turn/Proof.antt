@@ -12,7 +12,7 @@ use Rattle.modelling.proofs.model.turn.Statement.{statement}
 use Rattle.modelling.proofs.model.turn.Tie as tie
 use Rattle.modelling.proofs.model.turn.Reads as reads
 use Rattle.modelling.proofs.model.turn.Lts as lts
-use Rattle.fixing.proofs.ising.to_ising.Reads as to-ising-reads
+use Rattle.ising.proofs.to_ising.Reads as to-ising-reads
 
 enum-told : tie.Need-enum-told
 enum-told c = search needs

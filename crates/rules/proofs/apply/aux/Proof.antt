@@ -1,4 +1,4 @@
--- `evaluator::rules::aux` meets its contract.
+-- `rules::apply::aux` meets its contract.
 -- Assumes nothing.
 use Rattle.rules.proofs.Bools.{aux-differ, aux-agree}
 use mathlib.Core.Path.{sym, _∙_}

@@ -1,4 +1,4 @@
--- `evaluator::rules::majority` meets its contract.
+-- `rules::apply::majority` meets its contract.
 -- Assumes nothing.
 use Rattle.rules.proofs.Bools.{majority-true, majority-false}
 use borrow.Author.Needs.{needs}

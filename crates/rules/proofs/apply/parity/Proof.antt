@@ -1,4 +1,4 @@
--- `evaluator::rules::parity` meets its contract.
+-- `rules::apply::parity` meets its contract.
 -- Assumes nothing.
 use Rattle.rules.proofs.Bools.{parity-true, parity-false}
 use borrow.Author.Needs.{needs}

@@ -1,4 +1,4 @@
--- `evaluator::rules::value_by` meets its contract.
+-- `rules::apply::value_by` meets its contract.
 -- Assumes nothing.
 use borrow.Author.Needs.{needs}
 use Rattle.rules.proofs.apply.value_by.Statement.{statement}

@@ -1,4 +1,4 @@
--- `evaluator::rules::aux_rule` meets its contract.
+-- `rules::find::aux_rule` meets its contract.
 -- Assumes nothing.
 use borrow.Author.Needs.{needs}
 use Rattle.rules.proofs.find.aux_rule.Statement.{statement}

@@ -1,4 +1,4 @@
--- `evaluator::rules::carry_rule` meets its contract.
+-- `rules::find::carry_rule` meets its contract.
 -- Assumes nothing.
 use borrow.Author.Needs.{needs}
 use Rattle.rules.proofs.find.carry_rule.Statement.{statement}

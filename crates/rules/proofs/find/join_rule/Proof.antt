@@ -1,4 +1,4 @@
--- `evaluator::rules::join_rule` meets its contract.
+-- `rules::find::join_rule` meets its contract.
 -- Assumes nothing.
 use borrow.Author.Tests.{eq-eqb, ne-eqb}
 use borrow.Author.Needs.{needs}

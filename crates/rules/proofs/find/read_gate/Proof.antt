@@ -1,4 +1,4 @@
--- `evaluator::rules::read_gate` meets its contract.
+-- `rules::find::read_gate` meets its contract.
 -- Assumes nothing.
 use borrow.Author.Needs.{needs}
 use Rattle.rules.proofs.find.read_gate.Statement.{statement}

@@ -1,4 +1,4 @@
--- `evaluator::rules::result_rule` meets its contract.
+-- `rules::find::result_rule` meets its contract.
 -- Assumes nothing.
 use borrow.Author.Needs.{needs}
 use Rattle.rules.proofs.find.result_rule.Statement.{statement}

@@ -1,4 +1,4 @@
--- `evaluator::rules::rule_at` meets its contract.
+-- `rules::find::rule_at` meets its contract.
 -- Assumes nothing.
 use Rattle.rules.specs.Code.{ruleAt}
 use native.Mathlib.Omega.{arith}

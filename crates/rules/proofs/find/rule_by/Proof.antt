@@ -1,4 +1,4 @@
--- `evaluator::rules::rule_by` meets its contract.
+-- `rules::find::rule_by` meets its contract.
 -- Assumes nothing.
 use mathlib.Core.Path.{_∙_}
 use borrow.Author.Tests.{eq-eqb, ne-eqb}

@@ -1,4 +1,4 @@
--- `evaluator::rules::act_of` meets its contract.
+-- `rules::read::act_of` meets its contract.
 -- Assumes nothing.
 use borrow.Author.Needs.{needs}
 use Rattle.rules.proofs.read.act_of.Statement.{statement}

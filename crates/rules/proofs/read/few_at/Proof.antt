@@ -1,4 +1,4 @@
--- `evaluator::rules::few_at` meets its contract.
+-- `rules::read::few_at` meets its contract.
 -- Assumes nothing.
 use borrow.Author.Tests.{eq-eqb, ne-eqb}
 use Rattle.rules.proofs.read.few_at.Statement.{statement}

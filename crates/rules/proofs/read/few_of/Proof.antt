@@ -1,4 +1,4 @@
--- `evaluator::rules::few_of` meets its contract.
+-- `rules::read::few_of` meets its contract.
 -- Assumes nothing.
 use borrow.Author.Needs.{needs}
 use Rattle.rules.proofs.read.few_of.Statement.{statement}

@@ -1,4 +1,4 @@
--- `evaluator::rules::operand_at` meets its contract.
+-- `rules::read::operand_at` meets its contract.
 -- Assumes nothing.
 use Rattle.rules.proofs.Listed.{read-few, read-first, read-second}
 use Rattle.rules.specs.Code.{nameIn}

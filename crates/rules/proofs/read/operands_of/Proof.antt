@@ -1,4 +1,4 @@
--- `evaluator::rules::operands_of` meets its contract.
+-- `rules::read::operands_of` meets its contract.
 -- Assumes nothing.
 use borrow.Author.Needs.{needs}
 use Rattle.rules.proofs.read.operands_of.Statement.{statement}

@@ -1,4 +1,4 @@
--- `evaluator::rules::part_of` meets its contract.
+-- `rules::read::part_of` meets its contract.
 -- Assumes nothing.
 use native.Mathlib.Omega.{arith}
 use Prim.Native.Nat.{_+_}

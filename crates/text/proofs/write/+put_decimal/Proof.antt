@@ -1,4 +1,4 @@
--- `write::put_decimal` meets its contract. It calls itself for the tens; the measure is the number.
+-- `text::write::put_decimal` meets its contract. It calls itself for the tens; the measure is the number.
 -- Assumes nothing.
 use mathlib.Core.Path.{sym, subst}
 use mathlib.Core.List.{List, [], _∷_, _++_}

@@ -1,4 +1,4 @@
--- `line::put_lead` meets its contract: a number, and a space.
+-- `text::write::put_lead` meets its contract: a number, and a space.
 -- Assumes nothing.
 use Rattle.text.specs.Paste.{then, room-first, room-second}
 use Rattle.text.specs.Text.{leadText}

@@ -1,4 +1,4 @@
--- `evaluator::settle::bit_at` meets its contract.
+-- `values::settle::bit_at` meets its contract.
 -- Assumes nothing.
 use Rattle.values.proofs.Numbers.{no-bit}
 use borrow.Author.Needs.{needs}

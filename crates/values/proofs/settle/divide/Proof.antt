@@ -1,4 +1,4 @@
--- `evaluator::settle::divide` meets its contract.
+-- `values::settle::divide` meets its contract.
 -- Assumes nothing.
 use borrow.Author.Tests.{eq-eqb, ne-eqb}
 use borrow.Author.Needs.{needs}

@@ -1,4 +1,4 @@
--- `evaluator::settle::list_value` meets its contract.
+-- `values::settle::list_value` meets its contract.
 -- Assumes nothing.
 use Rattle.values.specs.Need.{bit, isTrue}
 use Rattle.circuit.specs.File.{field}

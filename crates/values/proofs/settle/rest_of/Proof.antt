@@ -1,4 +1,4 @@
--- `evaluator::settle::rest_of` meets its contract.
+-- `values::settle::rest_of` meets its contract.
 -- Assumes nothing.
 use borrow.Author.Needs.{needs}
 use Rattle.values.proofs.settle.rest_of.Statement.{statement}

@@ -1,4 +1,4 @@
--- `evaluator::settle::settle` meets its contract.
+-- `values::settle::settle` meets its contract.
 -- Assumes nothing.
 use borrow.Author.Needs.{needs}
 use Rattle.values.proofs.settle.settle.Statement.{statement}

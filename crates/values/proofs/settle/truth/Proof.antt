@@ -1,4 +1,4 @@
--- `evaluator::settle::truth` meets its contract.
+-- `values::settle::truth` meets its contract.
 -- Assumes nothing.
 use denote.Ref.{now}
 use lib.ListN.{List·getD-eq-default}

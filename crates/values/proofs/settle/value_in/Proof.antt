@@ -1,4 +1,4 @@
--- `evaluator::settle::value_in` meets its contract.
+-- `values::settle::value_in` meets its contract.
 -- Assumes nothing.
 use Rattle.values.specs.Code.{valueIn}
 use borrow.Author.Needs.{needs}

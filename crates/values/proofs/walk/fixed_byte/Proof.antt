@@ -1,4 +1,4 @@
--- `evaluator::walk::fixed_byte` meets its contract.
+-- `values::walk::fixed_byte` meets its contract.
 -- Assumes nothing.
 use borrow.Author.Tests.{eq-eqb, ne-eqb}
 use Rattle.values.proofs.walk.fixed_byte.Statement.{statement}

@@ -1,4 +1,0 @@
--- Lemmas that proofs cite.
-pub mod Moved
-pub mod Short
-pub mod Windows
