@@ -2,11 +2,15 @@
 use cases::Asked;
 use cases::LIMIT;
 use libc::STDIN_FILENO;
-ghost use Prim.Native.Nat.{_≤_};
+ghost use mathlib.Core.Path.{_≡_};
+ghost use mathlib.Core.Bool.{true};
+ghost use Prim.Native.Nat.{_+_, _*_, _≤_};
+ghost use lib.ListN.{length};
+ghost use Rattle.answering.specs.Answer.{limit};
 
 // Reads n bytes, or as many as there are or as the buffer has room for. Answers how many.
 fn read_some(buf: &mut [u8], n: usize) -> usize
-    ensures { λ r. ⌜ r ≤ n ⌝ }
+    ensures { λ r. ⌜ (r ≤ n) × (r ≤ length (now (buf .exit))) ⌝ }
 {
     if n < buf.len() {
         return io::read_full(STDIN_FILENO, &mut buf[..n]);
@@ -27,8 +31,11 @@ fn skip(buf: &mut [u8], n: usize) -> bool {
     true
 }
 
-// Reads the circuit and the values of a case, or passes over them where the circuit is too long. Answers whether there were as many bytes.
-pub fn read_case(asked: Asked, buf: &mut [u8]) -> bool {
+// Reads the circuit and the values of a case, or passes over them where the circuit is too long. Answers whether there were as many bytes: then they stand within
+// the buffer, but for those passed over.
+pub fn read_case(asked: Asked, buf: &mut [u8]) -> bool
+    ensures { λ r. ⌜ (r ≡ true → asked .length ≤ limit → asked .length + 8 * asked .values ≤ length (now (buf .exit))) ⌝ }
+{
     let length = asked.length as usize;
     let values = asked.values as usize;
     let n = length + 8 * values;

@@ -1,8 +1,10 @@
 // Decimal numbers, read.
 ghost use mathlib.Core.Path.{_≡_};
-ghost use mathlib.Core.Bool.{true};
-ghost use Prim.Native.Nat.{_<_, _≤_};
-ghost use lib.ListN.{length};
+ghost use mathlib.Core.Bool.{true, cond};
+ghost use mathlib.Core.Logic.{_≢_};
+ghost use Prim.Native.Nat.{ℕ, _+_, _<_, _≤_};
+ghost use lib.Dec.{ltb};
+ghost use lib.ListN.{length, getD};
 
 // A number that was read, and the place after it and the space that follows.
 pub struct Parsed {
@@ -11,7 +13,9 @@ pub struct Parsed {
 }
 
 // The next place, within what a file can have.
-pub fn step(at: usize) -> usize {
+pub fn step(at: usize) -> usize
+    ensures { λ r. ⌜ r ≡ cond (ltb at 1000000) (at + 1) at ⌝ }
+{
     if at < 1000000 { at + 1 } else { at }
 }
 
@@ -25,11 +29,16 @@ pub fn is_digit(s: &[u8], at: usize) -> bool
     false
 }
 
-fn grown(value: usize, digit: u8) -> usize {
+fn grown(value: usize, digit: u8) -> usize
+    ensures { λ r. ⌜ r < 1000000 ⌝ }
+{
     (value % 100000) * 10 + ((digit % 48) % 10) as usize
 }
 
-pub fn number(s: &[u8], at: usize) -> Parsed {
+// The number whose digits stand from `at` on: of a longer one the last six digits.
+pub fn number(s: &[u8], at: usize) -> Parsed
+    ensures { λ r. ⌜ r .value < 1000000 ⌝ }
+{
     let mut value: usize = 0;
     let mut i = at;
     while is_digit(s, i) {
@@ -43,7 +52,10 @@ pub fn number(s: &[u8], at: usize) -> Parsed {
 }
 
 // The first place from `at` on that has the byte, or the end.
-pub fn find(s: &[u8], at: usize, byte: u8) -> usize {
+pub fn find(s: &[u8], at: usize, byte: u8) -> usize
+    ensures { λ r. ⌜ (at ≤ r) × ((k : ℕ) → at ≤ k → k < r → getD (now (s .entry)) k 0 ≢ byte) ⌝ }
+    ensures { λ r. ⌜ (r < length (now (s .entry)) → getD (now (s .entry)) r 0 ≡ byte) × (at ≤ length (now (s .entry)) → r ≤ length (now (s .entry))) ⌝ }
+{
     let mut i = at;
     while i < s.len() {
         if s[i] == byte {
