@@ -8,7 +8,7 @@ use lib.ListN.{length, take, drop, length-drop}
 use borrow.Author.Tests.{lt-ltb, le-ltb}
 use lib.Seq.{take-all, take-nil, drop-nil}
 use Rattle.circuit.specs.declared.Refusal.the-variants.{TooMany}
-use Rattle.report.specs.Report.{refusalLine}
+use Rattle.lines.specs.Report.{refusalLine}
 use Rattle.cases.specs.declared.Job.{Job}
 use Rattle.cases.specs.declared.Job.the-variants.{Model, Run}
 use Rattle.cases.specs.declared.Asked.{Asked}

@@ -10,15 +10,15 @@ use lib.ListN.{length, take, drop, replicate, length-replicate}
 use lib.Seq.{take-append-seam}
 use Rattle.units.specs.declared.Form.{Form}
 use Rattle.circuit.specs.declared.Refusal.{Refusal}
-use Rattle.qubot.specs.declared.Built.{Built}
-use Rattle.qubot.specs.declared.Built.the-variants.{Done, Refused as Rejected}
-use Rattle.qubot.specs.Built.{Tables, built}
+use Rattle.built.specs.declared.Built.{Built}
+use Rattle.built.specs.declared.Built.the-variants.{Done, Refused as Rejected}
+use Rattle.built.specs.Built.{Tables, built}
 use Rattle.text.specs.Paste.{paste, Printed, paste-fits, printed-as}
-use Rattle.report.specs.Report.{refusalLine}
-use Rattle.dump.specs.declared.Dumped.{Dumped}
-use Rattle.dump.specs.declared.Dumped.the-variants.{Text, Refused}
-use Rattle.dump.specs.Dumped.{intoBuffer, textIn, dumpedBy, dumped, inside}
-use Rattle.fresh.specs.Fresh.{fresh}
+use Rattle.lines.specs.Report.{refusalLine}
+use Rattle.text_left.specs.declared.Dumped.{Dumped}
+use Rattle.text_left.specs.declared.Dumped.the-variants.{Text, Refused}
+use Rattle.text_left.specs.Dumped.{intoBuffer, textIn, dumpedBy, dumped}
+use Rattle.built.specs.Fresh.{fresh}
 use Rattle.answering.specs.Answer.{modelSays, modelAnswer}
 
 -- by the answer
@@ -74,8 +74,3 @@ pub refusal-printed : (b : List ℕ) (form : Form) (buf mid out : List ℕ) (x :
 refusal-printed b form buf mid out x r n e p q =
     let is : _≡_ {A = List ℕ × Dumped} (mid, Refused r) (dumped b form fresh buf .1) = ap (λ (y : Dumped). (mid, y)) (sym p) ∙ e in
     printed-as (says b form buf ∙ ap modelSays (sym is)) (subst (λ (m : List ℕ). Printed (refusalLine r) m 0 out n) (left b form buf mid (Refused r) is) q)
-
--- it lies within the buffer
-pub text-inside : (b : List ℕ) (form : Form) (buf out : List ℕ) (x : Dumped) (n : ℕ) → _≡_ {A = List ℕ × Dumped} (out, x) (dumped b form fresh buf .1) → x ≡ Text n → n ≤ length out
-text-inside b form buf out x n e p =
-    inside b form fresh (dumped b form fresh buf .0) buf out n x (λ i. (dumped b form fresh buf .0, e i)) p

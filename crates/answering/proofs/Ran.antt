@@ -9,7 +9,7 @@ use Rattle.outcome.specs.declared.Outcome.{Outcome}
 use Rattle.outcome.specs.declared.Outcome.the-variants.{Ran, Refused}
 use Rattle.outcome.specs.declared.Run.{Run}
 use Rattle.evaluator.specs.Ran.{done}
-use Rattle.report.specs.Report.{runLines}
+use Rattle.lines.specs.Report.{runLines}
 use Rattle.cases.specs.Lines.{valuesLine, named}
 use Rattle.answering.specs.Answer.{valuesAfter, runSays}
 

@@ -12,12 +12,12 @@ use Rattle.circuit.specs.declared.Refusal.the-variants.{TooMany}
 use Rattle.outcome.specs.declared.Outcome.{Outcome}
 use Rattle.outcome.specs.declared.Outcome.the-variants.{Ran, Refused}
 use Rattle.evaluator.specs.Ran.{Done}
-use Rattle.report.specs.Report.{refusalLine, runLines}
-use Rattle.dump.specs.declared.Dumped.{Dumped}
-use Rattle.dump.specs.declared.Dumped.the-variants.{Text, Refused as NoText}
-use Rattle.dump.specs.Dumped.{dumped}
-use Rattle.fresh.specs.Fresh.{fresh}
-use Rattle.runs.specs.Evaluated.{evaluated}
+use Rattle.lines.specs.Report.{refusalLine, runLines}
+use Rattle.text_left.specs.declared.Dumped.{Dumped}
+use Rattle.text_left.specs.declared.Dumped.the-variants.{Text, Refused as NoText}
+use Rattle.text_left.specs.Dumped.{dumped}
+use Rattle.built.specs.Fresh.{fresh}
+use Rattle.run_left.specs.Evaluated.{evaluated}
 use Rattle.cases.specs.declared.Job.{Job}
 use Rattle.cases.specs.declared.Job.the-variants.{Model, Run}
 use Rattle.cases.specs.declared.Asked.{Asked}

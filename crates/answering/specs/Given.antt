@@ -14,12 +14,12 @@ use Rattle.laws.specs.Test.{by-ltb}
 use Rattle.units.specs.declared.Form.{Form}
 use Rattle.circuit.specs.Accepted.{well-formed}
 use Rattle.circuit.specs.declared.Refusal.the-variants.{FewValues, OtherCount}
-use Rattle.qubot.specs.declared.Built.{Built as Answer}
-use Rattle.qubot.specs.declared.Built.the-variants.{Done as Finishes, Refused as Rejected}
-use Rattle.qubot.specs.Built.{Tables, built}
+use Rattle.built.specs.declared.Built.{Built as Answer}
+use Rattle.built.specs.declared.Built.the-variants.{Done as Finishes, Refused as Rejected}
+use Rattle.built.specs.Built.{Tables, built}
 use Rattle.evaluator.specs.Ran.{Built, Done, done, refusal, choose, unknowns, within, beside, ran}
-use Rattle.runs.specs.Evaluated.{builtIn, evaluatedBy, evaluated}
-use Rattle.runs.specs.Left.{left-by}
+use Rattle.run_left.specs.Evaluated.{builtIn, evaluatedBy, evaluated}
+use Rattle.run_left.specs.Left.{left-by}
 use Rattle.cases.specs.Values.{valuesOf, countIn, valuesInto, givenOf, length-values}
 
 -- ---- the values that are given

@@ -15,16 +15,16 @@ use Rattle.units.specs.declared.Energy.{Energy}
 use Rattle.circuit.specs.declared.Refusal.{Refusal}
 use Rattle.circuit.specs.declared.Refusal.the-variants.{FewValues, OtherCount}
 use Rattle.outcome.specs.declared.Outcome.the-variants.{Ran, Refused}
-use Rattle.qubot.specs.declared.Built.{Built as Answer}
-use Rattle.qubot.specs.declared.Built.the-variants.{Done as Finishes}
-use Rattle.qubot.specs.declared.Finished.{Finished}
-use Rattle.qubot.specs.Built.{Tables, built}
+use Rattle.built.specs.declared.Built.{Built as Answer}
+use Rattle.built.specs.declared.Built.the-variants.{Done as Finishes}
+use Rattle.built.specs.declared.Finished.{Finished}
+use Rattle.built.specs.Built.{Tables, built}
 use Rattle.evaluator.specs.Need.{Got, table, stopped, bit}
 use Rattle.evaluator.specs.Ran.{Built, Done, done, refusal, finished, choose, unknowns, valued, within, beside, ran}
-use Rattle.runs.specs.Evaluated.{builtIn, evaluatedBy, evaluated}
+use Rattle.run_left.specs.Evaluated.{builtIn, evaluatedBy, evaluated}
 use Rattle.evaluator.specs.Kept.{valued-keeps, valued-length}
 use Rattle.cases.specs.Lines.{named}
-use Rattle.fresh.specs.Fresh.{fresh}
+use Rattle.built.specs.Fresh.{fresh}
 
 -- ---- bytes that are values: 0 false, 1 true, 2 unknown
 

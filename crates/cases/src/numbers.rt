@@ -1,5 +1,5 @@
 // The value of eight bytes, low byte first, and the lesser of two numbers.
-use circuit::records::word_at;
+use records::word_at;
 ghost use mathlib.Core.Path.{_≡_};
 ghost use Prim.Native.Nat.{_+_, _≤_, min};
 ghost use lib.ListN.{length};

@@ -1,3 +1,1 @@
-mod Late
-mod Wrong
 mod Checks

@@ -1,14 +1,14 @@
-// The checks 1 to 7, in number order, each over the whole input: `sizes` 2, 6 and 7, the crate `form` 3, `earlier` 4, `partner` 5.
+// The checks 1 to 7, in number order, each over the whole input: the crates `sizes` 2, 6 and 7, `form` 3, and `references` 4 and 5.
 // What each function answers is a definition of the crate `circuit`: see its specs/Check.antt.
 use circuit::Checked;
 use circuit::Counts;
 use circuit::Found;
 use circuit::Record;
 use circuit::Refusal;
-use circuit::lists::list_tops;
-use earlier::first_late;
 use form::first_broken;
-use partner::first_wrong;
+use lists::list_tops;
+use references::earlier::first_late;
+use references::partner::first_wrong;
 use sizes::counts_of;
 use sizes::no_room;
 use sizes::too_many;
@@ -16,10 +16,6 @@ ghost use mathlib.Core.Path.{_≡_};
 ghost use mathlib.Core.Bool.{false};
 ghost use Rattle.circuit.specs.Starts.{Regular};
 ghost use Rattle.circuit.specs.Check.{countsOf, tooMany, roomed, named, checked};
-
-pub mod earlier;
-pub mod partner;
-pub mod sizes;
 
 // Checks 6 and 7.
 fn check_room(k: Counts, gates: usize, qubits: usize, pairs: usize) -> Checked

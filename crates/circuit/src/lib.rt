@@ -1,10 +1,7 @@
 // The circuit file: records of 16 bytes, what the bytes mean, and when they are refused. The one crate that knows how a record lies in bytes.
-// `records` reads a record's parts, `lists` says where lists and inputs stand, and `parts` reads bad states, constraints and inputs of an accepted file.
-// The definitions in specs/ follow 01 sentence by sentence; the code of the checks 1 to 7 is the crates `form` and `checks`.
+// The definitions in specs/ follow 01 sentence by sentence. The crate `records` reads a record's parts, `lists` says where lists and inputs stand and reads the bad states and
+// inputs of an accepted file; the code of the checks 1 to 7 is the crates `form`, `sizes`, `references` and `checks`.
 pub mod answers;
-pub mod lists;
-pub mod parts;
-pub mod records;
 
 use units::Gate;
 use units::Qubit;

@@ -7,7 +7,7 @@ use Rattle.values.specs.declared.Went.{Went}
 use Rattle.values.specs.Need.{Got, table, stopped, went, andThen, each}
 use Rattle.values.specs.Code.{isStop}
 use Rattle.values.specs.Fuel.{andThen-ext}
-use Rattle.values.proofs.Cycle.{stop-now, go-on}
+use Rattle.values.specs.Code.{stop-now, go-on}
 
 pub each-append : (v : ℕ → List ℕ → Got) (xs ys t : List ℕ) → each v (xs ++ ys) t ≡ andThen (each v xs t) (each v ys)
 unfolding each

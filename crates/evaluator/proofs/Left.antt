@@ -24,7 +24,7 @@ use Rattle.rules.specs.Layout.{Laid}
 use Rattle.values.specs.Asking.{Ready, net, Asked, NeedsAsked}
 use Rattle.rules.specs.Code.{nameIn}
 use Rattle.values.specs.Code.{isStop}
-use Rattle.values.proofs.Cycle.{stop-now, go-on}
+use Rattle.values.specs.Code.{stop-now, go-on}
 use Rattle.values.proofs.Means.{bad-gate}
 
 pub record Left (b starts : List ℕ) (badFrom : ℕ) (s : State) (fixed t₀ all rest t : List ℕ) : Type 0 where

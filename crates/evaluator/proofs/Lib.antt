@@ -1,5 +1,4 @@
+-- What the proofs of several functions use.
 pub mod Left
 pub mod Rows
 pub mod Chain
-pub mod Trues
-pub mod Ending

@@ -1,10 +1,10 @@
 // What a run needs, in order: linear entries by name; rows by name, each with its higher neighbours by name; bad states.
-use circuit::records::field_at;
+use needing::need;
+use records::field_at;
 use rules::find::qubit_of;
 use units::Qubit;
 use values::Went;
-use values::walk::need;
-use values::walk::stops;
+use values::stops;
 ghost use mathlib.Core.Path.{_≡_};
 ghost use mathlib.Core.List.{_++_};
 ghost use Prim.Native.Nat.{_≤_, _<_};

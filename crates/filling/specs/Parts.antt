@@ -24,9 +24,9 @@ use Rattle.numbering.specs.Bytes.{prepared}
 use Rattle.numbering.specs.Numbered.{Outcome, numbered, number}
 use Rattle.pairs.specs.Store.{zip, front}
 use Rattle.store.specs.Tables as qubo
-use Rattle.placing.specs.Laid.{Good, laid}
+use Rattle.rows.specs.Laid.{Good, laid}
 use Rattle.placing.specs.Blank.{Blank, pairsOf}
-use Rattle.modelling.specs.declared.Counted.{Counted}
+use Rattle.finishing.specs.declared.Counted.{Counted}
 use Rattle.modelling.specs.declared.Modelled.the-variants.{Model as Made}
 use Rattle.fixes.specs.Order.{fixesOf}
 use Rattle.modelling.specs.Steps.{finishedOf}

@@ -10,7 +10,7 @@ use Rattle.energy.specs.Circuit.{Circuit}
 use Rattle.energy.specs.Model.{Entry, Model, variables}
 use Rattle.numbering.specs.State.{State, namesOf}
 use Rattle.placing.specs.Blank.{pairsOf}
-use Rattle.modelling.specs.declared.Counted.{Counted}
+use Rattle.finishing.specs.declared.Counted.{Counted}
 use Rattle.filling.specs.declared.Filled.{Filled}
 use Rattle.filling.specs.declared.Filled.the-variants.{Already, Clashes, Model as Holds}
 use Rattle.filling.specs.Made.{Made, already, clashes, model}

@@ -2,7 +2,7 @@
 use circuit::Counts;
 use clear::clear_model;
 use clear::clear_names;
-use modelling::Counted;
+use finishing::Counted;
 use parts::fill_model;
 use parts::is_model;
 use parts::number_names;

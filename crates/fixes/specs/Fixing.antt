@@ -30,9 +30,9 @@ use Rattle.fixes.specs.declared.Fix.{Fix}
 use Rattle.fixes.specs.declared.Fixed.{Fixed}
 use Rattle.fixes.specs.declared.Fixed.the-variants.{Done, Clash as Clashes}
 use Rattle.fixes.specs.Order.{joinedQubit, fixesOf}
-use Rattle.placing.specs.Laid.{noConstraint}
-use Rattle.placing.specs.Rowed.{Has, inside}
-use Rattle.placing.specs.Full.{full, step-full}
+use Rattle.rows.specs.Laid.{noConstraint}
+use Rattle.rows.specs.Rowed.{Has, inside}
+use Rattle.store.specs.Full.{full, step-full}
 
 -- the tables hold the model m, with pair tables of k entries
 pub record Holds (k : ℕ) (m : Model) (t : Totals) (l : List ℤ) (h r f ks : List ℕ) (ws : List ℤ) : Type 0 where

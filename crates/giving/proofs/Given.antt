@@ -28,7 +28,7 @@ use Rattle.rules.specs.Layout.{named}
 use Rattle.rules.specs.Code.{partOf}
 use Rattle.values.specs.Code.{isStop}
 use Rattle.giving.specs.Asked.{setBit, GiveAsked, InputsAsked}
-use Rattle.values.proofs.Cycle.{stop-now, go-on}
+use Rattle.values.specs.Code.{stop-now, go-on}
 
 -- ---- the remainder's bits
 

@@ -1,11 +1,11 @@
 // Giving the inputs: each bit of a value to its qubit; refusals 12 and 13.
-use circuit::records::field_at;
-use rules::read::part_of;
+use operands::part_of;
+use records::field_at;
 use units::Gate;
 use values::Stop;
 use values::Went;
 use values::settle::byte_of;
-use values::walk::stops;
+use values::stops;
 ghost use mathlib.Core.Path.{_≡_};
 ghost use mathlib.Core.List.{List};
 ghost use Prim.Native.Nat.{ℕ, _+_, _*_, _-_, _≤_, _<_};

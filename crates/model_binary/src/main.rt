@@ -2,5 +2,5 @@
 use units::Form;
 
 fn main() {
-    model_print::print_from_input(Form::Binary);
+    programs::model::print_from_input(Form::Binary);
 }

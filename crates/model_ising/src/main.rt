@@ -2,5 +2,5 @@
 use units::Form;
 
 fn main() {
-    model_print::print_from_input(Form::Ising);
+    programs::model::print_from_input(Form::Ising);
 }

@@ -28,16 +28,17 @@ use Rattle.pairs.specs.Store.{zip, load, canonical}
 use Rattle.store.specs.declared.Totals.{Totals}
 use Rattle.store.specs.Tables.{Tables, tables, modelOf, hold, Ready}
 use Rattle.qubo.specs.Logged.{loggedAll, settled, settled-loggedAll}
+use Rattle.qubo.specs.Room.{Settleable}
 use Rattle.ising.specs.Turning.{Turning, turning}
-use Rattle.modelling.specs.declared.Counted.{Counted}
+use Rattle.finishing.specs.declared.Counted.{Counted}
 use Rattle.modelling.specs.declared.Modelled.{Modelled}
 use Rattle.modelling.specs.declared.Modelled.the-variants.{Model as Made, Refused}
 use Rattle.fixes.specs.Order.{fixesOf}
 use Rattle.modelling.specs.Steps.{placedOf, finishedOf}
 use Rattle.modelling.specs.Demand.{fixes-are, placed-is, known-of}
-use Rattle.placing.specs.Laid.{Good, noConstraint}
-use Rattle.placing.specs.Rowed.{Has, has, fin, bad-has, have-past}
-use Rattle.placing.specs.Full.{full, model-full, step-full}
+use Rattle.rows.specs.Laid.{Good, noConstraint}
+use Rattle.rows.specs.Rowed.{Has, has, fin, bad-has, have-past}
+use Rattle.store.specs.Full.{full, model-full, step-full}
 use Rattle.placing.specs.Logs.{rows-names}
 use Rattle.placing.specs.Blank.{pairsOf, Logged, names-small, mass-to, count-to}
 use Rattle.fixes.specs.Fixing.{Holds, Fixable, Reading, fixesBy, fixes-by, fixAll-length, fixAll-mass}
@@ -70,13 +71,6 @@ canonical-length (e ∷ l) = omega (arith, add-length e (canonical l), canonical
 load-mass : (m : Model) → load (m .pairs) ≤ mass m
 unfolding mass
 load-mass m = omega arith
-
--- what settling asks
-pub record Settleable (ks : List ℕ) (ws : List ℤ) (t : Totals) : Type 0 where
-  pub even : length ws ≡ length ks
-  pub most : length ks ≤ 10192
-  pub used : t .count ≤ length ks
-  pub small : load (take (t .count) (zip ks ws)) ≤ 2 ^ 40
 
 module _ (b : List ℕ) (bads constraints : ℕ) (s : State) (good : Good b bads constraints s) where
   abbrev c : Circuit

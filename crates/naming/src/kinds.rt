@@ -1,7 +1,7 @@
 // What a gate of each kind does. Each kind has an arm of its own.
 use crate::Act;
 use circuit::GateKind;
-use circuit::records::kind_at;
+use records::kind_at;
 ghost use mathlib.Core.Path.{_≡_};
 ghost use Prim.Native.Nat.{_+_, _*_, _≤_};
 ghost use lib.ListN.{length};

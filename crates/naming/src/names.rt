@@ -1,6 +1,6 @@
 // Giving names: what happens at one gate, outside the recursion.
 use crate::Act;
-use circuit::records::field_at;
+use records::field_at;
 use units::Gate;
 use units::Qubit;
 ghost use mathlib.Core.Path.{_≡_};

@@ -1,4 +1,3 @@
 -- What the proofs of several functions use.
 mod Ways
-mod Cycle
-mod Rooting
+pub mod Cycle

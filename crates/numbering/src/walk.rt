@@ -1,11 +1,11 @@
 // The recursion: `visit` gives a gate's qubit or processes it, and `process` visits what the gate needs.
 use crate::Given;
-use circuit::records::field_at;
 use naming::kinds::act_at;
 use naming::kinds::arity_at;
 use naming::kinds::is_division;
 use naming::names::finish_gate;
 use naming::names::one_name;
+use records::field_at;
 use units::Gate;
 use units::Qubit;
 ghost use mathlib.Core.Path.{_≡_};

@@ -14,10 +14,10 @@ use Rattle.qubo.specs.declared.Wires.{Wires}
 use Rattle.store.specs.Tables.{Tables, tables, modelOf, hold}
 use Rattle.qubo.specs.Wiring.{slotsOf}
 use Rattle.qubo.specs.Logged.{logged}
-use Rattle.placing.specs.declared.Placed.{Placed}
-use Rattle.placing.specs.declared.Placed.the-variants.{At, Nothing}
-use Rattle.placing.specs.Found.{placedBy}
-use Rattle.placing.specs.Full.{hold-same}
+use Rattle.rows.specs.declared.Placed.{Placed}
+use Rattle.rows.specs.declared.Placed.the-variants.{At, Nothing}
+use Rattle.rows.specs.Found.{placedBy}
+use Rattle.store.specs.Held.{hold-same}
 
 pub row-placed : {p : Placed} {k : Kind} {w : Wires} {x : Penalty} {u : Tables} (t : Tables) → p ≡ At k w → x ≡ rowOf k → u ≡ hold (logged (slotsOf w) x (modelOf t)) t → u ≡ hold (placedBy p (modelOf t)) t
 row-placed {w = w} t e f g =

@@ -27,13 +27,13 @@ use Rattle.store.specs.Tables.{Tables, tables, modelOf, hold}
 use Rattle.qubo.specs.Wiring.{slotsOf}
 use Rattle.qubo.specs.Logged.{logged, loggedAll}
 use Rattle.qubo.specs.Room.{Placing, filled, filled-row, filled-or}
-use Rattle.placing.specs.declared.Placed.{Placed as Found}
-use Rattle.placing.specs.declared.Placed.the-variants.{At, Nothing}
-use Rattle.placing.specs.Laid.{Good}
-use Rattle.placing.specs.Found.{wiresOf, found, placedBy, slots-wire, placed-one, placed-none}
-use Rattle.placing.specs.Rowed.{fin}
+use Rattle.rows.specs.declared.Placed.{Placed as Found}
+use Rattle.rows.specs.declared.Placed.the-variants.{At, Nothing}
+use Rattle.rows.specs.Laid.{Good}
+use Rattle.rows.specs.Found.{wiresOf, found, placedBy, slots-wire, placed-one, placed-none}
+use Rattle.rows.specs.Rowed.{fin}
 use Rattle.placing.specs.Few.{total, total-append, rows-few}
-use Rattle.placing.specs.Full.{full, step-full}
+use Rattle.store.specs.Full.{full, step-full}
 use Rattle.placing.specs.Logs.{filledRow, logged-count, loggedAll-count, mass-loggedAll, loggedAll-append, wired-left, wired-right, Long, long-logged, one-row, rows-names}
 
 -- "10G+3B pairs"

@@ -1,9 +1,8 @@
 // The rows of all names are placed: their linear coefficients join the linear entries, and their pairs go to the log, which is settled once.
-// `rows` reads a name's row off the circuit and the tables of names.
-use penalty::Kind;
+// The crate `rows` reads a name's row off the circuit and the tables of names.
 use penalty::row;
-use qubo::Wires;
 use qubo::place::place;
+use rows::Placed;
 use rows::row_at;
 use store::Totals;
 use units::Qubit;
@@ -15,23 +14,9 @@ ghost use Rattle.circuit.specs.Meaning.{circuitOf};
 ghost use Rattle.numbering.specs.State.{mk, namesOf};
 ghost use Rattle.store.specs.Tables.{tables, modelOf, hold};
 ghost use Rattle.pairs.specs.Store.{zip, load, canonical, over};
-ghost use Rattle.placing.specs.Found.{placedBy};
-ghost use Rattle.placing.specs.Laid.{Good};
+ghost use Rattle.rows.specs.Found.{placedBy};
+ghost use Rattle.rows.specs.Laid.{Good};
 ghost use Rattle.placing.specs.Blank.{Blank, CanPlace, Logged, pairsOf};
-
-pub mod rows;
-
-// The row of a gate: by the penalty of a kind, or none.
-pub enum Ruled {
-    By(Kind),
-    Free,
-}
-
-// A row that is to be placed, with the qubits at its slots; or none.
-pub enum Placed {
-    At(Kind, Wires),
-    Nothing,
-}
 
 // Places a row, if there is one.
 pub fn place_one(

@@ -1,7 +1,7 @@
-// Printing the model text from finished tables into a lent buffer: `line` has the lines, `section` the parts of the text.
+// Printing the model text from finished tables into a lent buffer: the crate `entries` has the lines, `section` the parts of the text.
 // Each function prints a text that a definition of the crate `text` gives, from a place on, and answers the place after it.
 use circuit::Counts;
-use line::put_entry;
+use entries::put_entry;
 use section::put_bads;
 use section::put_inputs;
 use section::put_linear;
@@ -18,7 +18,6 @@ ghost use Rattle.text.specs.Paste.{Printed, Room};
 ghost use Rattle.text.specs.Text.{inputLine, badLine, entries, circuitText, entriesText, layout, sheetBy};
 ghost use Rattle.text.specs.Ready.{Readable, BadsNamed, Printable};
 
-pub mod line;
 pub mod section;
 
 // The inputs and the bad states, with a blank line after each.

@@ -1,13 +1,13 @@
 // The parts of the text, a loop each.
-use crate::line::put_bad;
-use crate::line::put_entry;
-use crate::line::put_pair;
-use crate::line::put_word;
 use circuit::Counts;
-use circuit::parts::bad_gate;
-use circuit::parts::bad_nid;
-use circuit::parts::input_gate;
-use circuit::parts::input_nid;
+use entries::put_bad;
+use entries::put_entry;
+use entries::put_pair;
+use entries::put_word;
+use lists::parts::bad_gate;
+use lists::parts::bad_nid;
+use lists::parts::input_gate;
+use lists::parts::input_nid;
 use text::write::put;
 use text::write::put_lead;
 ghost use mathlib.Core.List.{map, zip};

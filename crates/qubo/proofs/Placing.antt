@@ -15,12 +15,12 @@ use Rattle.penalty.specs.declared.Penalty.{Penalty}
 use Rattle.penalty.specs.Rows.{Slot, Place, singles, twos}
 use Rattle.energy.specs.Model.{Entry, Model, keyOf, isZero, joinLinear, addLinear, halves, addLinears, sizes}
 use Rattle.energy.specs.Mass.{sizes-gain, abs-halves}
-use Rattle.pairs.specs.Store.{zip, over, canonical}
+use Rattle.pairs.specs.Store.{zip, over}
 use Rattle.pairs.specs.Over.{over-more}
 use Rattle.pairs.proofs.Tables.{length-zip}
 use Rattle.store.specs.Tables.{Tables, tables, modelOf, withLinear, hold, gained, marked}
 use Rattle.qubo.specs.Wiring.{firsts, seconds}
-use Rattle.qubo.specs.Logged.{appendPair, logPair, logPairs, logged, settled}
+use Rattle.qubo.specs.Logged.{appendPair, logPair, logPairs, logged}
 use Rattle.qubo.specs.Room.{filledBy, filled, filled-halves, Longer}
 use Rattle.store.proofs.Adding.{zero-test, other-test, add-linear-is, gained-length, gained-sizes}
 
@@ -305,9 +305,3 @@ pub all-placed : (o o′ : ℤ) (l l₁ : List ℤ) (h h₁ r f ks : List ℕ) (
 unfolding logged
 all-placed o o′ l l₁ h h₁ r f ks ws n at p e s =
     ap (logPairs at twos (p .pairs)) (s (modelOf (tables o′ l h r f ks ws n)) ∙ ap (λ (z : ℤ). addLinears at singles (p .linear) (modelOf (tables z l h r f ks ws n))) e)
-
--- ---- settling
-pub all-settled : (o o′ : ℤ) (l : List ℤ) (h r f ks ks′ : List ℕ) (ws ws′ : List ℤ) (n c : ℕ) → o′ ≡ o → c ≡ length (canonical (take n (zip ks ws)))
-    → zip ks′ ws′ ≡ over (canonical (take n (zip ks ws))) n (zip ks ws)
-    → tables o′ l h r f ks′ ws′ c ≡ hold (settled (modelOf (tables o l h r f ks ws n))) (tables o l h r f ks ws n)
-all-settled o o′ l h r f ks ks′ ws ws′ n c z e t i = record { offset = z i; linear = l; hasLinear = h; hasRow = r; fixed = f; entries = t i; count = e i }

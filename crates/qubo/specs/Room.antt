@@ -83,6 +83,13 @@ pub record Settling (ks : List ℕ) (ws : List ℤ) (sk : List ℕ) (sw : List �
   pub used : t .count ≤ length ks
   pub small : load (take (t .count) (zip ks ws)) ≤ 2 ^ 40
 
+-- what settling asks
+pub record Settleable (ks : List ℕ) (ws : List ℤ) (t : Totals) : Type 0 where
+  pub even : length ws ≡ length ks
+  pub most : length ks ≤ 10192
+  pub used : t .count ≤ length ks
+  pub small : load (take (t .count) (zip ks ws)) ≤ 2 ^ 40
+
 -- ---- how far the log grows: one computed test of the table's rows
 
 within : Kind → Bool

@@ -1,8 +1,7 @@
-// Placing penalties into the coefficient store: each goes by value to its qubits, its pairs to the end of a log, and the log is settled once.
+// Placing penalties into the coefficient store: each goes by value to its qubits, its pairs to the end of a log, which the crate `settling` settles once.
 use units::Qubit;
 
 pub mod place;
-pub mod settle;
 
 // The qubits at the six slots of a penalty. A slot that the penalty does not use may name any qubit.
 pub struct Wires {

@@ -3,7 +3,7 @@ use libc::STDOUT_FILENO;
 use penalty::Kind;
 use qubo::Wires;
 use qubo::place::place;
-use qubo::settle::settle;
+use settling::settle;
 use store::Totals;
 use units::Qubit;
 ghost use mathlib.Core.List.{[]};

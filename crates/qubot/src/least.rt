@@ -1,6 +1,6 @@
 // The least of some lengths.
 ghost use mathlib.Core.Path.{_≡_};
-ghost use Rattle.qubot.specs.Built.{lesser};
+ghost use Rattle.built.specs.Built.{lesser};
 
 pub fn lesser(a: usize, b: usize) -> usize
     ensures { λ r. ⌜ r ≡ lesser a b ⌝ }

@@ -1,35 +1,17 @@
 // The build: from the bytes of a circuit to the finished model.
-use answer::answer_of;
+use built::Built;
+use built::answer::answer_of;
 use checks::check;
 use circuit::Checked;
-use circuit::Refusal;
 use least::least_of;
 use least::lesser;
 use units::Form;
 use whole::fill_tables;
 ghost use mathlib.Core.Path.{_≡_};
-ghost use Rattle.qubot.specs.Built.{lent, built};
+ghost use Rattle.built.specs.Built.{lent, built};
 
-pub mod answer;
 pub mod least;
 pub mod whole;
-
-// What a build says of the finished model: its form, how many names there are, how many pairs, the offset in halves, the variable count, and how many bad states and inputs the circuit has.
-pub struct Finished {
-    pub form: Form,
-    pub names: usize,
-    pub pairs: usize,
-    pub offset: i64,
-    pub variables: usize,
-    pub bads: usize,
-    pub inputs: usize,
-}
-
-// The answer of a build.
-pub enum Built {
-    Done(Finished),
-    Refused(Refusal),
-}
 
 // The build of any bytes, in the form that is asked for, on any tables: no contents of a table are trusted.
 pub fn build(

@@ -6,9 +6,9 @@ use units::Form;
 ghost use mathlib.Core.Path.{_≡_};
 ghost use Rattle.circuit.specs.Meaning.{circuitOf};
 ghost use Rattle.filling.specs.Tables.{filledBy};
-ghost use Rattle.qubot.specs.Made.{make};
-ghost use Rattle.qubot.specs.Built.{lent, inTables};
-ghost use Rattle.qubot.specs.Parts.{Passed, Enough};
+ghost use Rattle.built.specs.Made.{make};
+ghost use Rattle.built.specs.Built.{lent, inTables};
+ghost use Rattle.built.specs.Parts.{Passed, Enough};
 
 // Bytes that passed the checks 1 to 7: the parts of the tables that 7 names are filled.
 pub fn fill_tables(

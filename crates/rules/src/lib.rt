@@ -1,10 +1,9 @@
-// The rule of a qubit, read off its origin and role and the circuit; it is not stored. What it reads, and its value from theirs.
+// The rule of a qubit, read off its origin and role and the circuit; it is not stored. Its value from those that it reads; which those are is the crate `operands`.
 use circuit::GateKind;
 use units::Qubit;
 
 pub mod apply;
 pub mod find;
-pub mod read;
 
 // The rules by the Rust's names. A division has its index and its lists' numbers.
 pub enum Rule {

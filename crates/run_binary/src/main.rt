@@ -2,5 +2,5 @@
 use units::Form;
 
 fn main() {
-    run_print::run_arguments(Form::Binary);
+    programs::run::run_arguments(Form::Binary);
 }

@@ -7,15 +7,15 @@ use Prim.Native.Nat.{ℕ, suc, _-_, _≤_}
 use native.Mathlib.Nat.{le-refl}
 use native.Mathlib.Omega.{arith}
 use lib.IntN.{ℤ}
-use lib.ListN.{length, take, drop, replicate, length-take}
-use lib.Seq.{drop-append-seam}
+use lib.ListN.{length, take, drop, replicate, length-take, take-append-drop}
+use lib.Seq.{drop-append-seam, length-take-le}
 use Rattle.energy.specs.Model.{Entry, Model, Sized, low, high, joinLinear, touches, without, fix, quarters, ising, ends, mass}
 use Rattle.energy.specs.Mass.{mass-fix, mass-ising}
 use Rattle.energy.specs.Sized.{turned}
 use Rattle.energy.specs.Fixing.{give-pairs}
 use Rattle.energy.specs.Sized.{sized-fix, sized-ising}
-use Rattle.pairs.specs.Store.{none}
-use Rattle.pairs.specs.Over.{take-over, length-over, over-zeros}
+use Rattle.pairs.specs.Store.{none, over}
+use Rattle.pairs.specs.Over.{take-over, length-over, over-zeros, over-more}
 use Rattle.store.specs.Tables.{Tables, modelOf, hold, Ready}
 
 -- ---- what the tables hold
@@ -102,3 +102,26 @@ pub ready-ising : {n : ℕ} {ks : List ℕ} {ws : List ℤ} {t : Tables} (ws′ 
 ready-ising {n} {ks} {ws} {t} ws′ u r lw e =
     ready-next ks ws′ u (ising (modelOf t)) r refl lw e (sized-ising n (modelOf t) (r .sized)) (mass-ising (modelOf t))
     (omega (arith, ap length (ising-pairs (modelOf t)), length-quarters (take (t .count) (t .entries)), in-use (t .count) (t .entries)))
+
+-- tables that hold their own model
+pub hold-same : (t : Tables) → t .count ≤ length (t .entries) → t ≡ hold (modelOf t) t
+hold-same t h i =
+    record {
+      offset = t .offset;
+      linear = t .linear;
+      hasLinear = t .hasLinear;
+      hasRow = t .hasRow;
+      fixed = t .fixed;
+      entries = entries i;
+      count = long i;
+    }
+  where
+    long : t .count ≡ length (take (t .count) (t .entries))
+    long = sym (length-take-le (t .count) (t .entries) h)
+
+    entries : t .entries ≡ over (take (t .count) (t .entries)) (t .count) (t .entries)
+    entries =
+        sym
+        (over-more (take (t .count) (t .entries)) (t .count) (t .entries) (omega (arith, long))
+        ∙ ap (λ (n : ℕ). take (t .count) (t .entries) ++ drop n (t .entries)) (sym long)
+        ∙ take-append-drop (t .count) (t .entries))

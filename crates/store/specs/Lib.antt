@@ -2,3 +2,4 @@
 pub mod Tables
 pub mod Held
 pub mod Evaluating
+pub mod Full

@@ -81,6 +81,10 @@ printed-as {s} {t} {buf} {out} {at} {next} e p = subst (λ (T : List ℕ). Print
 pub room-as : {at : ℕ} {s t : List ℕ} → t ≡ s → Room at t → Room at s
 room-as {at} e h = subst (Room at) e h
 
+-- a text of a known length, and where it ends
+pub within : {t buf out : List ℕ} {at next : ℕ} (k : ℕ) → length t ≤ k → Printed t buf at out next → Printed t buf at out next × (next ≤ at + k)
+within k h p = (p, omega (arith, h, p .place))
+
 -- ---- the two passes
 
 -- Printing into an empty part tells the length.

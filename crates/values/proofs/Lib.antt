@@ -1,3 +1,3 @@
+-- What the proofs of several functions use.
 pub mod Numbers
 pub mod Means
-pub mod Cycle

@@ -13,7 +13,7 @@ use Rattle.circuit.specs.File.{field}
 use Rattle.values.specs.Need.{isTrue, bit, bitOf, number}
 use Rattle.rules.specs.Layout.{named}
 use Rattle.rules.specs.Code.{nameIn}
-use Rattle.rules.proofs.Listed.{length-named}
+use Rattle.operands.proofs.Listed.{length-named}
 
 bit-small : (b : Bool) → bit b ≤ 1
 bit-small true = omega arith

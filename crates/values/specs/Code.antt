@@ -1,5 +1,6 @@
--- The value of a rule as the code finds it, and what becomes of its qubit.
--- Assumes nothing: these are definitions.
+-- The value of a rule as the code finds it, what becomes of its qubit, and what a step that stops leaves of the steps after it.
+-- Assumes nothing.
+use mathlib.Core.Path.{_≡_, refl}
 use mathlib.Core.Bool.{Bool, true, false, cond}
 use mathlib.Core.List.{List}
 use Prim.Native.Nat.{ℕ, _+_, _*_, _/_, _%_, _≤_}
@@ -16,7 +17,7 @@ use Rattle.values.specs.declared.Went.the-variants.{On, Stopped}
 use Rattle.values.specs.declared.Stop.the-variants.{ZeroDivisor, NotGiven}
 use Rattle.values.specs.declared.settle.Value.{Value}
 use Rattle.values.specs.declared.settle.Value.the-variants as value
-use Rattle.values.specs.Need.{Got, stopped, isTrue, bit, put, number, bitOf}
+use Rattle.values.specs.Need.{Got, stopped, went, andThen, isTrue, bit, put, number, bitOf}
 
 -- ---- the value of a rule
 
@@ -52,6 +53,15 @@ pub record PartsAsked (size : ℕ) (o : Operands) : Type 0 where
 abbrev pub isStop : Went → Bool
 isStop On = false
 isStop (Stopped x) = true
+
+-- a step that stops, and one that goes on
+pub stop-now : (w : Went) (t u : List ℕ) (f : List ℕ → Got) → isStop w ≡ true → andThen (went w t) f ≡ went w u
+stop-now On t u f e = let z : _≡_ {A = Bool} false true = e in absurd (mathlib.Core.Bool.false≢true z)
+stop-now (Stopped x) t u f e = refl
+
+pub go-on : (w : Went) (t : List ℕ) (f : List ℕ → Got) → isStop w ≡ false → andThen (went w t) f ≡ f t
+go-on On t f e = refl
+go-on (Stopped x) t f e = absurd (mathlib.Core.Bool.true≢false e)
 
 -- a fixed value's byte: 2 is fixed true
 abbrev pub fixedBit : ℕ → ℕ

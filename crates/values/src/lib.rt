@@ -1,9 +1,10 @@
-// The value of a qubit that is needed: the given one, else the fixed one, else its rule's; 14 and 15.
+// The value of a qubit from those that its rule reads, put into the table; 14 and 15.
 use units::Gate;
 use units::Qubit;
+ghost use mathlib.Core.Path.{_≡_};
+ghost use Rattle.values.specs.Code.{isStop};
 
 pub mod settle;
-pub mod walk;
 
 // Why a run stops while values are given and found: 12 to 15.
 pub enum Stop {
@@ -17,4 +18,14 @@ pub enum Stop {
 pub enum Went {
     On,
     Stopped(Stop),
+}
+
+// Whether the run stops.
+pub fn stops(w: Went) -> bool
+    ensures { λ r. ⌜ r ≡ isStop w ⌝ }
+{
+    match w {
+        Went::On => false,
+        Went::Stopped(_) => true,
+    }
 }

@@ -1,13 +1,13 @@
 // The value of a rule once its operands' values are found.
 use crate::Stop;
 use crate::Went;
-use circuit::records::field_at;
+use operands::act_of;
+use records::field_at;
 use rules::Act;
 use rules::Operands;
 use rules::Rule;
 use rules::apply::value_by;
 use rules::find::qubit_of;
-use rules::read::act_of;
 use units::Qubit;
 ghost use mathlib.Core.Path.{_≡_};
 ghost use mathlib.Core.List.{map};

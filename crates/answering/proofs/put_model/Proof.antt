@@ -1,7 +1,8 @@
 -- `answering::put_model` meets its contract: by what `dump_fresh` and `print_refusal` ensure.
 -- Assumes nothing.
 use native.Mathlib.Omega.{arith}
-use Rattle.answering.proofs.Model.{text-printed, refusal-printed, text-inside}
+use Rattle.answering.proofs.Model.{text-printed, refusal-printed}
+use Rattle.text_left.specs.Dumped.{inside-text}
 use borrow.Author.Needs.{needs}
 use Rattle.answering.proofs.put_model.Statement.{statement}
 use Rattle.answering.proofs.put_model.Tie as tie
@@ -28,7 +29,7 @@ same-length-2 : tie.Need-same-length-2
 same-length-2 c = search needs
 
 returns-2 : tie.Need-returns-2
-returns-2 c = (text-printed _ _ _ _ _ _ (c .before .before .before .before .before .dump-fresh .ensures) (c .before .dumped2 .given .1), omega (arith, text-inside _ _ _ _ _ _ (c .before .before .before .before .before .dump-fresh .ensures) (c .before .dumped2 .given .1)))
+returns-2 c = (text-printed _ _ _ _ _ _ (c .before .before .before .before .before .dump-fresh .ensures) (c .before .dumped2 .given .1), omega (arith, inside-text _ _ _ _ _ _ _ (c .before .before .before .before .before .dump-fresh .ensures) (c .before .dumped2 .given .1)))
 
 pub put-model-spec : {M : Type 1} → statement M
 put-model-spec =

@@ -4,10 +4,10 @@ use mathlib.Core.Path.{_≡_}
 use mathlib.Core.List.{List, []}
 use Prim.Native.Nat.{ℕ}
 use borrow.Author.Needs.{needs}
-use Rattle.qubot.specs.Built.{Tables, lent}
-use Rattle.dump.specs.declared.Dumped.{Dumped}
-use Rattle.dump.specs.Dumped.{printedBy, dumped, by-build}
-use Rattle.dump.specs.Left.{LeftBy, left-by}
+use Rattle.built.specs.Built.{Tables, lent}
+use Rattle.text_left.specs.declared.Dumped.{Dumped}
+use Rattle.text_left.specs.Dumped.{printedBy, dumped, by-build}
+use Rattle.text_left.specs.Left.{LeftBy, left-by}
 use Rattle.dump.proofs.dump_model.Statement.{statement}
 use Rattle.dump.proofs.dump_model.Tie as tie
 

@@ -10,9 +10,9 @@ use Rattle.fixes.proofs.fix_at.Statement.{statement}
 use Rattle.fixes.proofs.fix_at.Tie as tie
 use Rattle.fixes.proofs.fix_at.Reads as reads
 use Rattle.fixes.proofs.fix_at.Lts as lts
-use Rattle.circuit.proofs.records.byte1_at.Reads as byte1-at-reads
+use Rattle.records.proofs.byte1_at.Reads as byte1-at-reads
 use Rattle.fixes.proofs.joined.Reads as joined-reads
-use Rattle.placing.proofs.rows.named_by.Reads as named-by-reads
+use Rattle.rows.proofs.named_by.Reads as named-by-reads
 
 joined-requires : tie.Need-joined-requires
 joined-requires c κs = search needs

@@ -7,7 +7,7 @@ use Rattle.fixes.proofs.joined.Statement.{statement}
 use Rattle.fixes.proofs.joined.Tie as tie
 use Rattle.fixes.proofs.joined.Reads as reads
 use Rattle.fixes.proofs.joined.Lts as lts
-use Rattle.placing.proofs.rows.named_by.Reads as named-by-reads
+use Rattle.rows.proofs.named_by.Reads as named-by-reads
 
 sub-t10 : tie.Need-sub-t10
 sub-t10 c = search needs

@@ -7,14 +7,14 @@ use lib.ListN.{length}
 use Rattle.circuit.specs.Meaning.{circuitOf}
 use Rattle.numbering.specs.State.{mk}
 use borrow.Author.Needs.{needs}
-use Rattle.placing.specs.Rowed.{fin}
+use Rattle.rows.specs.Rowed.{fin}
 use Rattle.placing.specs.Blank.{Logged, names-small, starts, can-place, turn, all-logged}
 use Rattle.placing.proofs.place_all.Statement.{statement}
 use Rattle.placing.proofs.place_all.Tie as tie
 use Rattle.placing.proofs.place_all.Reads as reads
 use Rattle.placing.proofs.place_all.Lts as lts
 use Rattle.placing.proofs.place_one.Reads as place-one-reads
-use Rattle.placing.proofs.rows.row_at.Reads as row-at-reads
+use Rattle.rows.proofs.row_at.Reads as row-at-reads
 
 abbrev Inv-loop : tie.InvT-loop
 Inv-loop circuit bads constraints qubits origins roles next linear₀ present₀ rows₀ keys₀ weights₀ end t₀ q₀ linear present rows keys weights t q =

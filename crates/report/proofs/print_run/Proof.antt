@@ -7,7 +7,7 @@ use lib.ListN.{take}
 use Rattle.text.specs.Paste.{printed-as}
 use Rattle.outcome.specs.declared.Outcome.{Outcome}
 use Rattle.outcome.specs.declared.Run.{Run}
-use Rattle.report.specs.Report.{runLines, outcomeLines}
+use Rattle.lines.specs.Report.{runLines, outcomeLines}
 use borrow.Author.Needs.{needs}
 use Rattle.report.proofs.print_run.Statement.{statement}
 use Rattle.report.proofs.print_run.Tie as tie

@@ -2,10 +2,10 @@
 -- Assumes nothing.
 use mathlib.Core.Path.{_≡_}
 use borrow.Author.Needs.{needs}
-use Rattle.qubot.specs.Built.{Tables, lent}
+use Rattle.built.specs.Built.{Tables, lent}
 use Rattle.evaluator.specs.Ran.{Done}
-use Rattle.runs.specs.Evaluated.{ranBy, evaluated, by-build}
-use Rattle.runs.specs.Left.{LeftBy, left-by}
+use Rattle.run_left.specs.Evaluated.{ranBy, evaluated, by-build}
+use Rattle.run_left.specs.Left.{LeftBy, left-by}
 use Rattle.runs.proofs.run.Statement.{statement}
 use Rattle.runs.proofs.run.Tie as tie
 

@@ -4,8 +4,7 @@ use native.Mathlib.Omega.{arith}
 use lib.ListN.{length}
 use Prim.Native.Nat.{_≤_}
 use Rattle.cases.specs.Lines.{caseText, case-short}
-use Rattle.text.specs.Paste.{Room, then, room-first, room-second}
-use Rattle.report.specs.Length.{within as short-line}
+use Rattle.text.specs.Paste.{Room, then, room-first, room-second, within as short-line}
 use borrow.Author.Needs.{needs}
 use Rattle.cases.proofs.lines.put_case.Statement.{statement}
 use Rattle.cases.proofs.lines.put_case.Tie as tie

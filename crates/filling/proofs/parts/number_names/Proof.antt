@@ -7,8 +7,8 @@ use Rattle.filling.proofs.parts.number_names.Statement.{statement}
 use Rattle.filling.proofs.parts.number_names.Tie as tie
 use Rattle.filling.proofs.parts.number_names.Reads as reads
 use Rattle.filling.proofs.parts.number_names.Lts as lts
-use Rattle.circuit.proofs.lists.list_starts.Reads as list-starts-reads
-use Rattle.numbering.proofs.roots.number.Reads as number-reads
+use Rattle.lists.proofs.list_starts.Reads as list-starts-reads
+use Rattle.roots.proofs.number.Reads as number-reads
 use Rattle.filling.proofs.clear.clear_names.Reads as clear-names-reads
 
 clear-names-requires : tie.Need-clear-names-requires

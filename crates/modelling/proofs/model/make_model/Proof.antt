@@ -24,8 +24,8 @@ use Rattle.modelling.proofs.model.make_model.Statement.{statement}
 use Rattle.modelling.proofs.model.make_model.Tie as tie
 use Rattle.modelling.proofs.model.make_model.Reads as reads
 use Rattle.modelling.proofs.model.make_model.Lts as lts
-use Rattle.fixes.proofs.fix_all.Reads as fix-all-reads
-use Rattle.modelling.proofs.model.finish_model.Reads as finish-model-reads
+use Rattle.all_fixes.proofs.fix_all.Reads as fix-all-reads
+use Rattle.finishing.proofs.finish_model.Reads as finish-model-reads
 use Rattle.modelling.proofs.model.place_model.Reads as place-model-reads
 
 place-model-requires : tie.Need-place-model-requires

@@ -8,7 +8,7 @@ use Rattle.modelling.proofs.model.place_model.Statement.{statement}
 use Rattle.modelling.proofs.model.place_model.Tie as tie
 use Rattle.modelling.proofs.model.place_model.Reads as reads
 use Rattle.modelling.proofs.model.place_model.Lts as lts
-use Rattle.modelling.proofs.model.settle_all.Reads as settle-all-reads
+use Rattle.settling.proofs.settle_all.Reads as settle-all-reads
 use Rattle.placing.proofs.place_all.Reads as place-all-reads
 
 place-all-requires : tie.Need-place-all-requires

@@ -8,7 +8,7 @@ use lib.IntN.{pos}
 use lib.ListN.{take, getD}
 use Rattle.text.specs.Paste.{room-first, room-as, printed-as}
 use Rattle.text.specs.Text.{lines, linearText, entries}
-use Rattle.printing.proofs.Words.{entry-read}
+use Rattle.entries.proofs.Words.{entry-read}
 use Rattle.text.specs.Left.{Left, left-start, left-as, left-print, left-end, left-room}
 use Rattle.printing.proofs.Tables.{linear-from, linear-all, linear-yes, linear-no, linear-none}
 use Rattle.printing.proofs.section.put_linear.Statement.{statement}

@@ -8,7 +8,7 @@ use lib.IntN.{pos}
 use lib.ListN.{take, getD}
 use Rattle.text.specs.Paste.{room-first, room-as, printed-as}
 use Rattle.text.specs.Text.{lines, pairText}
-use Rattle.printing.proofs.Words.{pair-read}
+use Rattle.entries.proofs.Words.{pair-read}
 use Rattle.text.specs.Left.{Left, left-start, left-as, left-print, left-end, left-room}
 use Rattle.printing.proofs.Tables.{pairs-from, pairs-all, pairs-next, pairs-none}
 use Rattle.printing.proofs.section.put_pairs.Statement.{statement}

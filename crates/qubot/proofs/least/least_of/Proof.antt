@@ -1,7 +1,7 @@
 -- `least::least_of` meets its contract.
 -- Assumes nothing.
 use mathlib.Core.Path.{_≡_, ap, ap₂, _∙_}
-use Rattle.qubot.specs.Built.{lesser}
+use Rattle.built.specs.Built.{lesser}
 use borrow.Author.Needs.{needs}
 use Rattle.qubot.proofs.least.least_of.Statement.{statement}
 use Rattle.qubot.proofs.least.least_of.Tie as tie

@@ -1,3 +1,0 @@
-mod Starting
-mod Topping
-mod Reading

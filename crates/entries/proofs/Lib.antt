@@ -1,0 +1,2 @@
+-- Lemmas that several proofs cite.
+pub mod Words

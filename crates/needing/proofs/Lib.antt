@@ -1,0 +1,2 @@
+-- The mathematics of the cycle of calls.
+mod Cycle

@@ -1,0 +1,2 @@
+-- What the operands are, as a list.
+pub mod Listed

@@ -1,0 +1,122 @@
+-- `operands::few_of` meets its contract.
+-- Assumes nothing.
+use borrow.Author.Needs.{needs}
+use Rattle.operands.proofs.few_of.Statement.{statement}
+use Rattle.operands.proofs.few_of.Tie as tie
+
+enum-known-rule : tie.Need-enum-known-rule
+enum-known-rule c = search needs
+
+enum-known-rule-2 : tie.Need-enum-known-rule-2
+enum-known-rule-2 c = search needs
+
+enum-known-rule-3 : tie.Need-enum-known-rule-3
+enum-known-rule-3 c = search needs
+
+enum-known-rule-4 : tie.Need-enum-known-rule-4
+enum-known-rule-4 c = search needs
+
+enum-known-rule-5 : tie.Need-enum-known-rule-5
+enum-known-rule-5 c = search needs
+
+enum-known-rule-6 : tie.Need-enum-known-rule-6
+enum-known-rule-6 c = search needs
+
+enum-known-rule-7 : tie.Need-enum-known-rule-7
+enum-known-rule-7 c = search needs
+
+enum-known-rule-8 : tie.Need-enum-known-rule-8
+enum-known-rule-8 c = search needs
+
+enum-known-rule-9 : tie.Need-enum-known-rule-9
+enum-known-rule-9 c = search needs
+
+enum-known-rule-10 : tie.Need-enum-known-rule-10
+enum-known-rule-10 c = search needs
+
+enum-known-rule-11 : tie.Need-enum-known-rule-11
+enum-known-rule-11 c = search needs
+
+enum-told : tie.Need-enum-told
+enum-told c = search needs
+
+enum-told-2 : tie.Need-enum-told-2
+enum-told-2 c = search needs
+
+enum-told-3 : tie.Need-enum-told-3
+enum-told-3 c = search needs
+
+returns : tie.Need-returns
+returns c = rw (c .before .rule .given .1)
+
+returns-2 : tie.Need-returns-2
+returns-2 c = rw (c .before .rule2 .given .1)
+
+returns-3 : tie.Need-returns-3
+returns-3 c = rw (c .before .rule3 .given .1)
+
+returns-4 : tie.Need-returns-4
+returns-4 c = rw (c .before .rule4 .given .1)
+
+returns-5 : tie.Need-returns-5
+returns-5 c = rw (c .before .rule5 .given .1)
+
+returns-6 : tie.Need-returns-6
+returns-6 c = rw (c .before .rule6 .given .1)
+
+returns-7 : tie.Need-returns-7
+returns-7 c = rw (c .before .rule7 .given .1)
+
+returns-8 : tie.Need-returns-8
+returns-8 c = rw (c .before .rule8 .given .1)
+
+returns-9 : tie.Need-returns-9
+returns-9 c = rw (c .before .rule9 .given .1)
+
+returns-10 : tie.Need-returns-10
+returns-10 c = rw (c .before .rule10 .given .1)
+
+returns-11 : tie.Need-returns-11
+returns-11 c = rw (c .before .rule11 .given .1)
+
+returns-12 : tie.Need-returns-12
+returns-12 c = rw (c .enum-told .given .1)
+
+returns-13 : tie.Need-returns-13
+returns-13 c = rw (c .enum-told2 .given .1)
+
+returns-14 : tie.Need-returns-14
+returns-14 c = rw (c .enum-told3 .given .1)
+
+pub few-of-spec : {M : Type 1} → statement M
+few-of-spec =
+    tie.close
+    (tie.spec
+    enum-known-rule
+    enum-known-rule-2
+    enum-known-rule-3
+    enum-known-rule-4
+    enum-known-rule-5
+    enum-known-rule-6
+    enum-known-rule-7
+    enum-known-rule-8
+    enum-known-rule-9
+    enum-known-rule-10
+    enum-known-rule-11
+    enum-told
+    enum-told-2
+    enum-told-3
+    returns
+    returns-2
+    returns-3
+    returns-4
+    returns-5
+    returns-6
+    returns-7
+    returns-8
+    returns-9
+    returns-10
+    returns-11
+    returns-12
+    returns-13
+    returns-14)
