@@ -2,5 +2,5 @@
 use units::Form;
 
 fn main() {
-    programs::model::print_from_input(Form::Binary);
+    model_print::print_from_input(Form::Binary);
 }

@@ -2,5 +2,5 @@
 use units::Form;
 
 fn main() {
-    programs::run::run_arguments(Form::Binary);
+    run_print::run_arguments(Form::Binary);
 }

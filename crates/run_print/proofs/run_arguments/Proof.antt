@@ -1,10 +1,10 @@
--- `run::run_arguments` is safe: the values that are lent lie within the table.
+-- `run_print::run_arguments` is safe: the values that are lent lie within the table.
 -- Assumes nothing.
 use native.Mathlib.Omega.{arith}
 use lib.ListN.{length-take}
 use borrow.Author.Needs.{needs}
-use Rattle.programs.proofs.run.run_arguments.Statement.{statement}
-use Rattle.programs.proofs.run.run_arguments.Tie as tie
+use Rattle.run_print.proofs.run_arguments.Statement.{statement}
+use Rattle.run_print.proofs.run_arguments.Tie as tie
 
 arg-count-requires : tie.Need-arg-count-requires
 arg-count-requires c κs = search needs

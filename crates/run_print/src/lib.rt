@@ -11,7 +11,7 @@ use units::Form;
 ghost use mathlib.Core.Path.{_≡_};
 ghost use Prim.Native.Nat.{min};
 ghost use lib.ListN.{length};
-ghost use Rattle.programs.specs.Inside.{Inside};
+ghost use Rattle.run_print.specs.Inside.{Inside};
 
 // What reading gave: that many bytes, or that it failed.
 pub enum Got {

@@ -1,10 +1,10 @@
--- `run::run_file` is safe: the part that is run lies within the buffer.
+-- `run_print::run_file` is safe: the part that is run lies within the buffer.
 -- Assumes nothing.
 use native.Mathlib.Omega.{arith}
 use lib.ListN.{length-take}
 use borrow.Author.Needs.{needs}
-use Rattle.programs.proofs.run.run_file.Statement.{statement}
-use Rattle.programs.proofs.run.run_file.Tie as tie
+use Rattle.run_print.proofs.run_file.Statement.{statement}
+use Rattle.run_print.proofs.run_file.Tie as tie
 
 slice-aggregate-read-circuit : tie.Need-slice-aggregate-read-circuit
 slice-aggregate-read-circuit c = search needs

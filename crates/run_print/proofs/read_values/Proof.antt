@@ -1,11 +1,11 @@
--- `run::read_values` is safe and ends: the arguments are finite.
+-- `run_print::read_values` is safe and ends: the arguments are finite.
 -- Assumes nothing.
 use mathlib.Core.Path.{_≡_}
 use Prim.Native.Nat.{_-_, _≤_}
 use lib.ListN.{length}
 use borrow.Author.Needs.{needs}
-use Rattle.programs.proofs.run.read_values.Statement.{statement}
-use Rattle.programs.proofs.run.read_values.Tie as tie
+use Rattle.run_print.proofs.read_values.Statement.{statement}
+use Rattle.run_print.proofs.read_values.Tie as tie
 
 abbrev Inv-loop : tie.InvT-loop
 Inv-loop count inputs₀ i₀ inputs i = (2 ≤ i) × (length inputs ≡ length inputs₀)

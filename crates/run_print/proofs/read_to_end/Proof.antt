@@ -1,4 +1,4 @@
--- `run::read_to_end` is safe and ends: each read that moves something leaves less room.
+-- `run_print::read_to_end` is safe and ends: each read that moves something leaves less room.
 -- Assumes nothing.
 use mathlib.Core.Path.{_≡_, _∙_, subst}
 use mathlib.Core.List.{List}
@@ -7,10 +7,10 @@ use native.Mathlib.Omega.{arith}
 use lib.ListN.{length, length-take, length-drop}
 use borrow.Author.Needs.{needs}
 use borrow.Rule.Slice.PartMut.{midOf, putMid, same-len-mid}
-use Rattle.programs.specs.declared.run.Got.{Got}
-use Rattle.programs.specs.Inside.{Inside}
-use Rattle.programs.proofs.run.read_to_end.Statement.{statement}
-use Rattle.programs.proofs.run.read_to_end.Tie as tie
+use Rattle.run_print.specs.declared.Got.{Got}
+use Rattle.run_print.specs.Inside.{Inside}
+use Rattle.run_print.proofs.read_to_end.Statement.{statement}
+use Rattle.run_print.proofs.read_to_end.Tie as tie
 
 abbrev Inv-loop : tie.InvT-loop
 Inv-loop fd buf₀ done₀ buf done = (done ≤ length buf) × (length buf ≡ length buf₀)

@@ -1,9 +1,9 @@
--- `model::print_model` is safe: a text that was printed lies within the buffer, as the contract of `dump_fresh` has it.
+-- `model_print::print_model` is safe: a text that was printed lies within the buffer, as the contract of `dump_fresh` has it.
 -- Assumes nothing.
 use Rattle.text_left.specs.Dumped.{inside-text}
 use borrow.Author.Needs.{needs}
-use Rattle.programs.proofs.model.print_model.Statement.{statement}
-use Rattle.programs.proofs.model.print_model.Tie as tie
+use Rattle.model_print.proofs.print_model.Statement.{statement}
+use Rattle.model_print.proofs.print_model.Tie as tie
 
 dump-fresh-requires : tie.Need-dump-fresh-requires
 dump-fresh-requires c κs = search needs
