@@ -7,7 +7,6 @@ use sifting::sift::sift_all;
 use store::Totals;
 use units::Qubit;
 ghost use mathlib.Core.List.{[]};
-ghost use mathlib.Core.Path.{_≡_};
 ghost use Prim.Native.Nat.{_+_, _<_};
 ghost use lib.ListN.{length};
 ghost use Rattle.store.specs.Tables.{tables, modelOf};

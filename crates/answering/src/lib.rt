@@ -15,7 +15,6 @@ use report::print_run;
 use runs::fresh::run_fresh;
 use text_left::Dumped;
 use units::Form;
-ghost use mathlib.Core.Path.{_≡_};
 ghost use Prim.Native.Nat.{_≤_, max};
 ghost use lib.ListN.{length};
 ghost use Rattle.text.specs.Paste.{Printed};

@@ -19,7 +19,7 @@ use Rattle.penalty.specs.Rows.{Slot, Place, singles, twos, rowOf}
 use Rattle.energy.specs.Circuit.{Constraint}
 use Rattle.energy.specs.Plain.{Row, wire}
 use Rattle.energy.specs.Numbering.{Named, Numbering, rows}
-use Rattle.energy.specs.Model.{Entry, Model, empty, low, high, keyOf, isZero, joinLinear, add, joinPair, addLinear, addPair, halves, addLinears, addPairs, place, placeAll}
+use Rattle.energy.specs.Model.{Entry, Model, empty, low, high, keyOf, isZero, joinLinear, add, joinPair, addPair, halves, addLinears, addPairs, place, placeAll}
 use Rattle.energy.specs.Sized.{Wired, Ends, keyOf-ends, sorted-wired}
 use Rattle.energy.specs.Gone.{Apart, Gone, gone-joinLinear, gone-addLinear, gone-later, gone-ising}
 use Rattle.energy.specs.Finished.{Room, fixes, model, finished, inForm}

@@ -1,23 +1,22 @@
 -- The sum of the sizes of all coefficients (`mass`): placing a row adds at most 264 to it, fixing and the Ising form never make it larger, and it bounds
 -- every coefficient, the offset and the energy. So no sum of the build leaves the range of its type.
 -- Assumes nothing.
-use mathlib.Core.Path.{_≡_, refl, sym, _∙_, ap, subst}
+use mathlib.Core.Path.{_≡_, refl, ap}
 use mathlib.Core.Bool.{Bool, true, false, cond, _&&_, Bool·beq}
 use mathlib.Core.List.{List, [], _∷_, map}
 use Prim.Native.Nat.{ℕ, zero, suc, _+_, _*_, _/_, _≤_}
 use native.Mathlib.Nat.{le-refl}
 use native.Mathlib.Omega.{arith}
 use lib.Dec.{eqb, ltb}
-use lib.IntN.{ℤ, pos, negsuc, negℤ, natAbs, _+ℤ_}
+use lib.IntN.{ℤ, pos, negsuc, natAbs, _+ℤ_}
 use lib.ListN.{length, getD, set, replicate}
-use lib.Signed.{quotZ}
 use Rattle.laws.specs.Abs.{abs-add, abs-neg}
 use Rattle.laws.specs.Sum.{sum}
 use Rattle.units.specs.declared.Form.{Form}
 use Rattle.units.specs.declared.Form.the-variants.{Binary, Ising}
 use Rattle.penalty.specs.declared.Kind.{Kind}
 use Rattle.penalty.specs.declared.Penalty.{Penalty}
-use Rattle.penalty.specs.Rows.{Slot, Place, singles, twos, rows, rowOf}
+use Rattle.penalty.specs.Rows.{Slot, Place, singles, twos, rowOf}
 use Rattle.penalty.specs.Small.{offset-small, linear-small, pairs-small}
 use Rattle.energy.specs.Plain.{Setting, Row, wire}
 use Rattle.energy.specs.Model.{Entry, Model, keyOf, low, high, empty, isZero, addOffset, joinLinear, add, joinPair, addLinear, addPair, halves, addLinears, addPairs, place, placeAll, gated, touches, neighbour, give, without, clear, fix, half, quarter, weights, quarters, ends, ising, signed, linearBy, pairsBy, energyBy, energyIn, sizes, mass}

@@ -4,7 +4,7 @@
 --     bad-on                                  the bad states
 -- Assumes nothing.
 use mathlib.Core.Path.{_≡_, refl, sym, ap, _∙_}
-use mathlib.Core.Bool.{Bool, true, false}
+use mathlib.Core.Bool.{true, false}
 use mathlib.Core.List.{List, [], _∷_, map}
 use Prim.Native.Nat.{ℕ, suc, _+_, _≤_, _<_}
 use native.Mathlib.Omega.{arith}
@@ -14,14 +14,13 @@ use lib.Seq.{drop-cons}
 use borrow.Author.Tests.{eq-eqb, ne-eqb}
 use Rattle.circuit.specs.File.{field}
 use Rattle.circuit.specs.Meaning.{circuitOf}
-use Rattle.energy.specs.Circuit.{Bad}
 use Rattle.numbering.specs.State.{State, qubitOf}
 use Rattle.numbering.specs.Numbered.{badGates}
 use Rattle.values.specs.declared.Went.{Went}
-use Rattle.values.specs.Need.{Got, table, went, andThen, each, needOf}
+use Rattle.values.specs.Need.{table, went, andThen, each, needOf}
 use Rattle.evaluator.specs.Ran.{marked, badQubits}
 use Rattle.rules.specs.Layout.{Laid}
-use Rattle.values.specs.Asking.{Ready, net, Asked, NeedsAsked}
+use Rattle.values.specs.Asking.{net, Asked, NeedsAsked}
 use Rattle.rules.specs.Code.{nameIn}
 use Rattle.values.specs.Code.{isStop}
 use Rattle.values.specs.Code.{stop-now, go-on}

@@ -1,7 +1,7 @@
 -- What a run asks of the build holds of every circuit that was numbered: the names lead to gates and join steps, and a rule's operands are less deep.
 -- Assumes nothing.
-use mathlib.Core.Path.{_≡_, refl, sym, ap, _∙_, subst}
-use mathlib.Core.Logic.{_⊎_, inl, inr}
+use mathlib.Core.Path.{_≡_, refl}
+use mathlib.Core.Logic.{inl}
 use mathlib.Core.Bool.{Bool, true, false, cond}
 use mathlib.Core.List.{List, [], _∷_, _++_, map}
 use Prim.Native.Nat.{ℕ, zero, suc, _+_, _*_, _-_, _≤_, _<_}
@@ -10,15 +10,13 @@ use native.Mathlib.Decide.{decLt}
 use lib.Dec.{eqb}
 use lib.ListN.{length, getD, List·getD-eq-default}
 use borrow.Author.Tests.{eq-eqb, ne-eqb}
-use Rattle.penalty.specs.declared.Kind.{Kind}
 use Rattle.penalty.specs.Rule.{isAdder}
-use Rattle.energy.specs.Plain.{more}
 use Rattle.energy.specs.Circuit as gate
-use Rattle.energy.specs.Circuit.{Circuit, Gate, ConstFalse, Bad, Node, fixed, free, op, carryOf, node, nodesOf, Before, AllBelow, IsAdder}
+use Rattle.energy.specs.Circuit.{Circuit, Gate, ConstFalse, Bad, Node, fixed, free, op, carryOf, node, nodesOf, Before, AllBelow}
 use Rattle.energy.specs.Numbering.{reads}
 use Rattle.numbering.specs.State.{State, slot, qubitOf, origin, role}
-use Rattle.numbering.specs.Numbered.{badGates, roots, joinsOf, firstJoin, size}
-use Rattle.numbering.specs.Laws.{AllHave, Origin, Took, Placed, Taken, adder-took}
+use Rattle.numbering.specs.Numbered.{badGates, joinsOf, firstJoin, size}
+use Rattle.numbering.specs.Laws.{AllHave, Placed, adder-took}
 use Rattle.numbering.specs.Finished as num
 use Rattle.numbering.specs.Finished.{Finished}
 use Rattle.rules.specs.Rules.{Law, resultLaw, carryLaw, auxLaw, joinLaw, lawOf, operands, depth}

@@ -1,9 +1,9 @@
 -- An accepted file lies as a run reads it: with the starts that `list_starts` and `input_starts` give.
 -- Assumes nothing.
-use mathlib.Core.Path.{_≡_, refl, sym, ap, _∙_}
+use mathlib.Core.Path.{_≡_, refl, ap, _∙_}
 use mathlib.Core.Bool.{Bool, true, false, _&&_, _||_}
 use mathlib.Core.List.{List, [], _∷_, map}
-use Prim.Native.Nat.{ℕ, zero, suc, _+_, _*_, _-_, _/_, _≤_, _<_}
+use Prim.Native.Nat.{ℕ, zero, suc, _+_, _*_, _-_, _≤_, _<_}
 use native.Mathlib.Omega.{arith}
 use native.Mathlib.Numerals.{add-one}
 use borrow.Author.Tests.{ltb-true, lt-ltb}
@@ -13,10 +13,10 @@ use Rattle.circuit.specs.declared.GateKind.{GateKind}
 use Rattle.circuit.specs.declared.GateKind.the-variants as kind
 use Rattle.energy.specs.Circuit.{Input}
 use Rattle.circuit.specs.File.{records, kindByte, field, kindAt, countOf, bitsOf}
-use Rattle.circuit.specs.Count.{countBefore, range, length-range, length-those, count-weaker}
-use Rattle.circuit.specs.Meaning.{listOf, inputOf, circuitOf}
+use Rattle.circuit.specs.Count.{range, length-range, length-those, count-weaker}
+use Rattle.circuit.specs.Meaning.{circuitOf}
 use Rattle.circuit.specs.Ordered.{all-stand}
-use Rattle.circuit.specs.Numbers.{Numbered, lists-numbered, inputs-numbered, bits-count}
+use Rattle.circuit.specs.Numbers.{lists-numbered, inputs-numbered, bits-count}
 use Rattle.circuit.specs.Starts.{Regular, comesBefore, startOf, startsOf, bits-stand, list-stands, starts-most}
 use Rattle.circuit.specs.Marks.{gates-within}
 use Rattle.circuit.specs.Parts.{bad-stands, starts-entry}

@@ -6,7 +6,7 @@ use units::Qubit;
 ghost use mathlib.Core.List.{[]};
 ghost use mathlib.Core.Path.{_≡_};
 ghost use Prim.Native.Nat.{_+_, _<_};
-ghost use lib.ListN.{length, getD};
+ghost use lib.ListN.{getD};
 ghost use Rattle.circuit.specs.Meaning.{circuitOf};
 ghost use Rattle.numbering.specs.State.{mk};
 ghost use Rattle.fixes.specs.Order.{joinedQubit};

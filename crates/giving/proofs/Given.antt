@@ -3,7 +3,7 @@
 use mathlib.Core.Path.{_≡_, refl, sym, ap, _∙_}
 use mathlib.Core.Bool.{Bool, true, false}
 use mathlib.Core.List.{List, [], _∷_}
-use Prim.Native.Nat.{ℕ, zero, suc, _+_, _-_, _*_, _%_, _≤_, _<_}
+use Prim.Native.Nat.{ℕ, zero, suc, _+_, _-_, _%_, _≤_, _<_}
 use native.Mathlib.Omega.{arith}
 use lib.Dec.{eqb}
 use lib.IntN.{ℤ, pos, negsuc, negℤ}
@@ -17,9 +17,8 @@ use Rattle.circuit.specs.File.{field}
 use Rattle.units.specs.Name.{gate}
 use Rattle.values.specs.declared.Went.{Went}
 use Rattle.values.specs.declared.Stop.the-variants.{NoQubit, NotUsedUp}
-use Rattle.values.specs.Need.{Got, table, stopped, went, andThen, decide, bit}
+use Rattle.values.specs.Need.{table, stopped, went, andThen, decide, bit}
 use Rattle.circuit.specs.Meaning.{circuitOf}
-use Rattle.energy.specs.Circuit.{Input}
 use Rattle.rules.specs.declared.Part.{Part}
 use native.Mathlib.Numerals.{add-one}
 use lib.Seq.{drop-cons}

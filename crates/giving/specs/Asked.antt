@@ -8,7 +8,6 @@ use lib.Dec.{eqb}
 use lib.IntN.{ℤ}
 use lib.ListN.{length, getD, set}
 use Rattle.units.specs.Name.{gate}
-use Rattle.energy.specs.Circuit.{Input}
 use Rattle.circuit.specs.File.{field}
 use Rattle.circuit.specs.Meaning.{circuitOf}
 use Rattle.rules.specs.Layout.{named}

@@ -1,10 +1,10 @@
 -- Giving the inputs: 11 to 13, and the bits of a value.
 -- Assumes nothing: these are definitions.
-use mathlib.Core.Bool.{Bool, true, false, cond}
+use mathlib.Core.Bool.{Bool}
 use mathlib.Core.List.{List, [], _∷_}
 use Prim.Native.Nat.{ℕ, suc, _-_}
 use lib.Dec.{eqb}
-use lib.IntN.{ℤ, pos, negsuc}
+use lib.IntN.{ℤ, pos}
 use lib.ListN.{getD, set}
 use lib.Signed.{quotZ, remZ}
 use Rattle.laws.specs.Equal.{eqZ}

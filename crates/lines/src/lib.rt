@@ -6,7 +6,6 @@ use text::write::put_halves;
 use text::write::put_signed;
 use units::Energy;
 use units::Form;
-ghost use mathlib.Core.Path.{_≡_};
 ghost use Prim.Native.Nat.{_+_, _*_, _^_, _≤_, _<_};
 ghost use lib.ListN.{length, take};
 ghost use Rattle.text.specs.Paste.{Printed, Room};

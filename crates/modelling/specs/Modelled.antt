@@ -7,7 +7,7 @@ use Prim.Native.Nat.{ℕ, suc, _+_, _-_, _^_, _≤_, _<_}
 use native.Mathlib.Omega.{arith}
 use lib.Dec.{eqb, ltb}
 use lib.IntN.{ℤ, _+ℤ_}
-use lib.ListN.{length, getD, take, replicate, length-map}
+use lib.ListN.{length, getD, replicate, length-map}
 use Rattle.units.specs.declared.Form.{Form}
 use Rattle.units.specs.declared.Form.the-variants.{Binary, Ising}
 use Rattle.energy.specs.Circuit.{Circuit, Constraint}
@@ -24,7 +24,7 @@ use Rattle.circuit.specs.Count.{getD-of}
 use Rattle.numbering.specs.State.{State, namesOf}
 use Rattle.numbering.specs.Numbered.{badGates, rowsFrom, rowsOf, namedOf}
 use Rattle.numbering.specs.Finished.{numbering, constraints-in}
-use Rattle.pairs.specs.Store.{zip, load, canonical}
+use Rattle.pairs.specs.Store.{load, canonical}
 use Rattle.store.specs.declared.Totals.{Totals}
 use Rattle.store.specs.Tables.{Tables, tables, modelOf, hold, Ready}
 use Rattle.qubo.specs.Logged.{loggedAll, settled, settled-loggedAll}

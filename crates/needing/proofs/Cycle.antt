@@ -4,12 +4,11 @@
 --     had, was-fixed, by-rule      the three returns of `need`
 -- Assumes nothing.
 use mathlib.Core.Path.{_≡_, refl, sym, ap, _∙_}
-use mathlib.Core.Bool.{Bool, true, false}
+use mathlib.Core.Bool.{true, false}
 use mathlib.Core.List.{List, [], _∷_}
 use Prim.Native.Nat.{ℕ, suc, _+_, _*_, _≤_, _<_}
 use native.Mathlib.Omega.{arith}
 use native.Mathlib.Numerals.{add-one}
-use lib.Dec.{eqb}
 use lib.ListN.{length, getD, drop, set, drop-of-length-le}
 use lib.Seq.{drop-cons}
 use borrow.Author.Tests.{eq-eqb, ne-eqb}
@@ -21,9 +20,9 @@ use Rattle.values.specs.declared.Went.{Went}
 use Rattle.rules.specs.declared.Rule.{Rule}
 use Rattle.rules.specs.declared.Operands.{Operands}
 use Rattle.rules.specs.Rules.{Law, lawOf, operands, depth}
-use Rattle.values.specs.Need.{Got, table, stopped, went, andThen, decide, each, put, settle, Net, lawIn, fixedAt, follow, step, needOf}
-use Rattle.rules.specs.Layout.{AllLess, Formed, Laid}
-use Rattle.values.specs.Asking.{Ready, net, followOf, Asked}
+use Rattle.values.specs.Need.{Got, table, went, andThen, each, settle, follow, step, needOf}
+use Rattle.rules.specs.Layout.{AllLess}
+use Rattle.values.specs.Asking.{net, followOf, Asked}
 use Rattle.rules.specs.Code.{meant, actOf, ruleAt, RuleAsked, ListsAsked, operandsOf, countOf, read, OperandAsked}
 use Rattle.values.specs.Code.{valueIn, settled, PartsAsked, isStop, fixedBit, stop-now, go-on}
 use Rattle.values.specs.Fuel.{needOf-step}

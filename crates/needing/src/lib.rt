@@ -8,11 +8,10 @@ use values::Went;
 use values::settle::settle;
 use values::stops;
 ghost use mathlib.Core.Path.{_≡_};
-ghost use Prim.Native.Nat.{_≤_, _<_};
-ghost use lib.ListN.{length};
+ghost use Prim.Native.Nat.{_<_};
 ghost use Rattle.numbering.specs.State.{mk};
 ghost use Rattle.values.specs.Need.{went, needOf};
-ghost use Rattle.values.specs.Asking.{Ready, net, followOf, Asked};
+ghost use Rattle.values.specs.Asking.{net, followOf, Asked};
 ghost use Rattle.values.specs.Code.{fixedBit};
 
 // The value that an entry of the table of fixed values stands for.

@@ -1,5 +1,4 @@
 -- The tables that the numbering fills, as one value, and how they begin. Assumes nothing: these are definitions.
-use mathlib.Core.List.{List}
 use Prim.Native.Nat.{ℕ, _+_, _*_}
 use lib.ListN.{length, replicate}
 use Rattle.energy.specs.Circuit.{Circuit}

@@ -1,15 +1,13 @@
 -- The operands by number: those of the rule itself, then the bits of the two lists.
 -- Assumes nothing.
 use mathlib.Core.Path.{_≡_, refl, sym, ap, _∙_}
-use mathlib.Core.List.{List, [], _∷_, _++_, map}
+use mathlib.Core.List.{List, _++_, map}
 use Prim.Native.Nat.{ℕ, zero, suc, _+_, _-_, _≤_, _<_}
 use native.Mathlib.Omega.{arith}
-use native.Mathlib.Numerals.{add-one}
 use lib.ListN.{length, getD, take, length-append, List·getD-append}
 use lib.Seq.{getD-append-add}
 use Rattle.circuit.specs.File.{field}
 use Rattle.rules.specs.declared.Few.{Few}
-use Rattle.rules.specs.declared.Part.{Part}
 use Rattle.rules.specs.declared.Operands.{Operands}
 use Rattle.rules.specs.Layout.{named}
 use Rattle.rules.specs.Code.{nameIn, three, fewAt, bitsAt, read, countOf}

@@ -8,7 +8,7 @@ use rules::Rule;
 use rules::find::qubit_of;
 use units::Qubit;
 ghost use mathlib.Core.Path.{_≡_};
-ghost use Prim.Native.Nat.{_+_, _*_, _≤_, _<_};
+ghost use Prim.Native.Nat.{_+_, _≤_, _<_};
 ghost use lib.ListN.{length, getD};
 ghost use Rattle.rules.specs.Code.{fewOf, actOf, PartAsked, partOf, ListsAsked, operandsOf, countOf, fewAt, OperandAsked, read};
 

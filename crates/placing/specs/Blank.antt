@@ -7,11 +7,11 @@ use native.Mathlib.Numerals.{add-one}
 use native.Mathlib.Omega.{arith}
 use lib.IntN.{ℤ, pos, natAbs}
 use native.Mathlib.Nat.{sub-zero}
-use lib.ListN.{length, replicate, length-append, length-replicate}
+use lib.ListN.{length, replicate, length-replicate}
 use Rattle.pairs.specs.Store.{zip, none}
 use Rattle.penalty.specs.Rows.{Slot, rowOf}
 use Rattle.penalty.specs.declared.Kind.the-variants as row
-use Rattle.energy.specs.Plain.{Row, wire}
+use Rattle.energy.specs.Plain.{Row}
 use Rattle.energy.specs.Circuit.{Circuit}
 use Rattle.energy.specs.Model.{Entry, Model, empty, sizes, mass}
 use Rattle.energy.specs.Mass.{few-row, mass-empty, offset-within}
@@ -25,16 +25,16 @@ use Rattle.numbering.specs.Finished.{rows-split, numbering, rows-agree}
 use Rattle.store.specs.declared.Totals.{Totals}
 use Rattle.store.specs.Tables.{Tables, tables, modelOf, hold}
 use Rattle.qubo.specs.Wiring.{slotsOf}
-use Rattle.qubo.specs.Logged.{logged, loggedAll}
-use Rattle.qubo.specs.Room.{Placing, filled, filled-row, filled-or}
+use Rattle.qubo.specs.Logged.{loggedAll}
+use Rattle.qubo.specs.Room.{Placing, filled-row, filled-or}
 use Rattle.rows.specs.declared.Placed.{Placed as Found}
 use Rattle.rows.specs.declared.Placed.the-variants.{At, Nothing}
 use Rattle.rows.specs.Laid.{Good}
-use Rattle.rows.specs.Found.{wiresOf, found, placedBy, slots-wire, placed-one, placed-none}
+use Rattle.rows.specs.Found.{found, placedBy, slots-wire, placed-one, placed-none}
 use Rattle.rows.specs.Rowed.{fin}
 use Rattle.placing.specs.Few.{total, total-append, rows-few}
 use Rattle.store.specs.Full.{full, step-full}
-use Rattle.placing.specs.Logs.{filledRow, logged-count, loggedAll-count, mass-loggedAll, loggedAll-append, wired-left, wired-right, Long, long-logged, one-row, rows-names}
+use Rattle.placing.specs.Logs.{filledRow, loggedAll-count, mass-loggedAll, loggedAll-append, wired-left, wired-right, Long, long-logged, one-row, rows-names}
 
 -- "10G+3B pairs"
 abbrev pub pairsOf : Circuit → ℕ

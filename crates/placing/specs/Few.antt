@@ -1,6 +1,6 @@
 -- How many rows there are: at most one for each gate, and one for each join step. So 01's 10G+3B pairs are enough.
 -- Assumes nothing.
-use mathlib.Core.Path.{_≡_, refl, sym, _∙_, ap}
+use mathlib.Core.Path.{_≡_, refl}
 use mathlib.Core.Bool.{Bool, true, false, _&&_, cond}
 use mathlib.Core.List.{List, [], _∷_, _++_}
 use Prim.Native.Nat.{ℕ, zero, suc, _+_, _*_, _-_, _≤_, _<_}
@@ -11,7 +11,7 @@ use borrow.Author.Tests.{le-leb, lt-leb, leb-true, eqb-true, eq-eqb, ne-eqb}
 use Rattle.penalty.specs.declared.Kind.the-variants as row
 use Rattle.energy.specs.Plain.{Row}
 use Rattle.energy.specs.Circuit.{Circuit, Node, fixed, free, op, carryOf, nodesOf}
-use Rattle.numbering.specs.State.{State, slot, origin, role}
+use Rattle.numbering.specs.State.{State, origin, role}
 use Rattle.numbering.specs.Numbered.{gateRow, joinRow, rowOf, rowsFrom, rowsOf, firstJoin, joinsOf}
 use Rattle.numbering.specs.Finished.{Formed, Finished, gate-role, rows-split}
 

@@ -1,30 +1,29 @@
 -- Rows in a log: how many pairs they add, how large the numbers get, and that the tables keep their lengths.
 -- Assumes nothing.
-use mathlib.Core.Path.{_≡_, refl, sym, ap, _∙_, subst}
+use mathlib.Core.Path.{_≡_, refl, sym, ap, _∙_}
 use mathlib.Core.Bool.{Bool, true, false, cond}
 use mathlib.Core.List.{List, [], _∷_, _++_}
-use Prim.Native.Nat.{ℕ, zero, suc, _+_, _-_, _*_, _≤_, _<_}
-use native.Mathlib.Nat.{le-refl}
+use Prim.Native.Nat.{ℕ, zero, suc, _+_, _-_, _*_, _≤_}
 use native.Mathlib.Omega.{arith}
 use lib.Dec.{eqb}
-use lib.IntN.{ℤ, pos, negsuc, natAbs, _+ℤ_}
-use lib.ListN.{length, getD, set, length-append}
+use lib.IntN.{ℤ, pos, negsuc, natAbs}
+use lib.ListN.{length, getD, length-append}
 use borrow.Author.Tests.{ne-eqb}
 use Rattle.penalty.specs.declared.Penalty.{Penalty}
 use Rattle.penalty.specs.Rows.{Slot, Place, singles, twos, rowOf}
 use Rattle.energy.specs.Plain.{Row, wire}
 use Rattle.energy.specs.Circuit.{Circuit, Node, fixed, free, op, carryOf, nodesOf}
-use Rattle.energy.specs.Model.{Entry, Model, Sized, empty, isZero, keyOf, addOffset, joinLinear, addLinear, halves, addLinears, placeAll, weights, sizes, mass}
+use Rattle.energy.specs.Model.{Entry, Model, empty, isZero, keyOf, addOffset, joinLinear, halves, addLinears, placeAll, weights, sizes, mass}
 use Rattle.energy.specs.Fixing.{addLinear-pairs}
 use Rattle.energy.specs.Sized.{Wired, sized-empty, sized-placeAll}
 use Rattle.energy.specs.Mass.{Few, few-row, mass-addOffset, mass-joinLinear, mass-addLinears, abs-halves}
 use Rattle.numbering.specs.State.{State, origin, role}
-use Rattle.numbering.specs.Numbered.{gateRow, joinRow, rowsFrom, rowsOf}
+use Rattle.numbering.specs.Numbered.{gateRow, joinRow, rowsFrom}
 use Rattle.numbering.specs.Numbered as numbering
 use Rattle.pairs.specs.Store.{canonical}
 use Rattle.qubo.specs.Logged.{appendPair, logPair, logPairs, logged, loggedAll, settled, settled-loggedAll}
 use Rattle.qubo.specs.Room.{filledBy, filled}
-use Rattle.placing.specs.Few.{total, total-append}
+use Rattle.placing.specs.Few.{total}
 
 -- how many pairs a row adds at most
 abbrev pub filledRow : Row → ℕ

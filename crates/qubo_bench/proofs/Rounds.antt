@@ -1,8 +1,8 @@
 -- What the timing program's loops keep: a table that is zeroed from the front, and tables that grow by one penalty at a time.
 -- Assumes nothing.
 use mathlib.Core.List.{List, [], _∷_, _++_}
-use mathlib.Core.Path.{_≡_, refl, sym, ap, _∙_}
-use Prim.Native.Nat.{ℕ, suc, _+_, _*_, _≤_, _<_}
+use mathlib.Core.Path.{_≡_, sym, ap, _∙_}
+use Prim.Native.Nat.{ℕ, _+_, _*_, _≤_, _<_}
 use native.Mathlib.Numerals.{add-one}
 use native.Mathlib.Omega.{arith}
 use lib.IntN.{ℤ, pos, natAbs}
@@ -12,8 +12,7 @@ use Rattle.penalty.specs.declared.Kind.the-variants.{Full}
 use Rattle.penalty.specs.declared.Penalty.{Penalty}
 use Rattle.penalty.specs.Rows.{Slot, rowOf}
 use Rattle.energy.specs.Model.{sizes, mass}
-use Rattle.energy.specs.Mass.{Few, few-row}
-use Rattle.store.specs.declared.Totals.{Totals}
+use Rattle.energy.specs.Mass.{few-row}
 use Rattle.store.specs.Tables.{Tables, tables, modelOf, hold}
 use Rattle.qubo.specs.Logged.{logged}
 use Rattle.qubo.specs.Room.{filled, filled-row}

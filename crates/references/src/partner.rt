@@ -5,10 +5,9 @@ use records::field_at;
 use records::kind_byte_at;
 ghost use mathlib.Core.Path.{_≡_};
 ghost use mathlib.Core.Bool.{_||_};
-ghost use Prim.Native.Nat.{_+_, _*_, _≤_, _<_};
-ghost use lib.ListN.{length};
+ghost use Prim.Native.Nat.{_+_, _<_};
 ghost use Rattle.circuit.specs.File.{records};
-ghost use Rattle.circuit.specs.Partner.{wrongAdder, emptyList, wrongInput, wrong, firstWrong};
+ghost use Rattle.circuit.specs.Partner.{wrongAdder, emptyList, wrongInput, firstWrong};
 ghost use Rattle.circuit.specs.Tops.{topsOf};
 ghost use Rattle.circuit.specs.Marks.{Timely, Marks};
 

@@ -1,7 +1,6 @@
 -- The row of a name, put together from what the code read.
 -- Assumes nothing.
-use mathlib.Core.Path.{_≡_, refl, sym, ap, _∙_}
-use mathlib.Core.Bool.{cond}
+use mathlib.Core.Path.{_≡_, refl, ap}
 use mathlib.Core.List.{List, [], _∷_}
 use Prim.Native.Nat.{ℕ, _+_, _-_}
 use native.Mathlib.Omega.{arith}
@@ -12,8 +11,7 @@ use Rattle.units.specs.Name.{qubit}
 use Rattle.penalty.specs.declared.Kind.the-variants.{Or}
 use Rattle.circuit.specs.File.{field}
 use Rattle.qubo.specs.declared.Wires.{Wires}
-use Rattle.rows.specs.declared.Placed.{Placed}
-use Rattle.rows.specs.declared.Placed.the-variants.{At, Nothing}
+use Rattle.rows.specs.declared.Placed.the-variants.{At}
 use Rattle.rows.specs.Found.{joinAt, found}
 
 or-wires : {p r : Qubit} {x y q : ℕ} → p .0 ≡ x → r .0 ≡ y

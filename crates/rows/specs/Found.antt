@@ -14,10 +14,10 @@ use Rattle.energy.specs.Plain.{Row, more, mid, wire}
 use Rattle.energy.specs.Model.{Model}
 use Rattle.circuit.specs.declared.GateKind.{GateKind}
 use Rattle.circuit.specs.declared.GateKind.the-variants.{ConstFalse, ConstTrue, InputBit, Not, And, Nand, Or, Matriarch1, CarryHalfAdder, ResultHalfAdder, CarryFullAdder, ResultFullAdder, Quotient, Remainder}
-use Rattle.circuit.specs.File.{field, kindAt}
+use Rattle.circuit.specs.File.{field}
 use Rattle.circuit.specs.Meaning.{gateOf}
 use Rattle.energy.specs.Circuit.{node}
-use Rattle.numbering.specs.State.{State, qubitOf}
+use Rattle.numbering.specs.State.{State}
 use Rattle.numbering.specs.Numbered.{gateRow}
 use Rattle.qubo.specs.declared.Wires.{Wires}
 use Rattle.qubo.specs.Wiring.{slotsOf}

@@ -1,12 +1,12 @@
 -- Where the gates, the bad states and the constraints of a circuit stand in its bytes, and what the steps of the build ask of a numbered circuit.
 -- Assumes nothing.
-use mathlib.Core.Path.{_≡_, refl, sym, ap, _∙_}
-use mathlib.Core.Bool.{Bool, true, false}
-use mathlib.Core.List.{List, [], _∷_, map}
-use Prim.Native.Nat.{ℕ, _+_, _*_, _/_, _≤_, _<_}
+use mathlib.Core.Path.{_≡_, ap, _∙_}
+use mathlib.Core.Bool.{false}
+use mathlib.Core.List.{List, map}
+use Prim.Native.Nat.{ℕ, _+_, _*_, _≤_, _<_}
 use native.Mathlib.Omega.{arith}
 use lib.ListN.{length, getD, length-map}
-use Rattle.energy.specs.Circuit.{Circuit, Gate, ConstFalse, Bad, Constraint}
+use Rattle.energy.specs.Circuit.{ConstFalse, Bad, Constraint}
 use Rattle.circuit.specs.declared.Found.the-variants.{Nowhere}
 use Rattle.circuit.specs.File.{field, records, placesOf, countOf}
 use Rattle.circuit.specs.Meaning.{gateAt, badAt, constraintAt, circuitOf}

@@ -1,9 +1,9 @@
 -- What reading a name's row asks, and that the tables of a numbered circuit give it.
 -- Assumes nothing.
-use mathlib.Core.Path.{_≡_, refl, sym, ap, _∙_, subst}
+use mathlib.Core.Path.{_≡_, sym, ap, _∙_}
 use mathlib.Core.Logic.{_⊎_, inl, inr}
-use mathlib.Core.Bool.{Bool, true, false, cond}
-use mathlib.Core.List.{List, [], _∷_, _++_, map}
+use mathlib.Core.Bool.{cond}
+use mathlib.Core.List.{List, [], _∷_, _++_}
 use Prim.Native.Nat.{ℕ, zero, suc, _+_, _-_, _*_, _≤_, _<_}
 use native.Mathlib.Omega.{arith}
 use native.Mathlib.Decide.{decLt}
@@ -13,19 +13,19 @@ use borrow.Author.Tests.{eq-eqb, ne-eqb}
 use Rattle.penalty.specs.declared.Kind.{Kind}
 use Rattle.penalty.specs.declared.Kind.the-variants as row
 use Rattle.energy.specs.Plain.{Row}
-use Rattle.energy.specs.Circuit.{Circuit, Bad, Constraint, Gate, ConstFalse, Node, node, nodesOf}
+use Rattle.energy.specs.Circuit.{Circuit, Bad, ConstFalse, node, nodesOf}
 use Rattle.circuit.specs.declared.GateKind.{GateKind}
 use Rattle.circuit.specs.declared.GateKind.the-variants as kind
 use Rattle.circuit.specs.File.{field, kindAt}
 use Rattle.circuit.specs.Meaning.{gateOf, gateAt, circuitOf}
 use Rattle.numbering.specs.State.{State, slot, origin, role}
 use Rattle.numbering.specs.Laws.{AllHave, Placed}
-use Rattle.numbering.specs.Numbered.{badGates, roots, gateRow, joinRow, rowOf, firstJoin, joinsOf}
+use Rattle.numbering.specs.Numbered.{badGates, gateRow, rowOf, firstJoin, joinsOf}
 use Rattle.numbering.specs.Finished.{Finished, finished, gate-role}
 use Rattle.rows.specs.declared.Ruled.{Ruled}
 use Rattle.rows.specs.declared.Ruled.the-variants.{By, Free}
 use Rattle.rows.specs.Found.{ruledBy, second, third, rowsBy, joinAt, gate-rows}
-use Rattle.rows.specs.Laid.{Laid, Good}
+use Rattle.rows.specs.Laid.{Good}
 
 -- field i of record n names a gate that has a qubit
 pub record Has (b qubits : List ℕ) (n i : ℕ) : Type 0 where

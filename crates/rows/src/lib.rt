@@ -7,7 +7,7 @@ use records::kind_at;
 use units::Qubit;
 ghost use mathlib.Core.List.{[], _∷_};
 ghost use mathlib.Core.Path.{_≡_};
-ghost use Prim.Native.Nat.{_+_, _-_, _*_, _≤_, _<_};
+ghost use Prim.Native.Nat.{_+_, _-_, _≤_, _<_};
 ghost use lib.ListN.{length, getD};
 ghost use Rattle.energy.specs.Plain.{more, mid};
 ghost use Rattle.circuit.specs.File.{field, kindAt};

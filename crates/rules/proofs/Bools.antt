@@ -1,5 +1,5 @@
 -- Boolean laws that the leaves' proofs cite. Assumes nothing.
-use mathlib.Core.Path.{_≡_, refl, sym}
+use mathlib.Core.Path.{_≡_, refl}
 use mathlib.Core.Bool.{Bool, true, false, not, _&&_, _||_, cond, Bool·beq, true≢false, false≢true}
 use Rattle.penalty.specs.Rule.{parity, majority}
 

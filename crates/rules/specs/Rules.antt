@@ -1,11 +1,10 @@
 -- The rule of a qubit, "like the Rust's": read off the name's origin and role and the circuit.
 -- Assumes nothing: these are definitions.
-use mathlib.Core.Bool.{Bool, true, false, not, _&&_, _||_, cond, Bool·beq}
+use mathlib.Core.Bool.{cond}
 use mathlib.Core.List.{List, [], _∷_, _++_, map}
 use Prim.Native.Nat.{ℕ, _+_, _-_}
 use lib.Dec.{eqb}
 use lib.ListN.{length, getD}
-use Rattle.penalty.specs.Rule.{parity, majority}
 use Rattle.energy.specs.Circuit as gate
 use Rattle.energy.specs.Circuit.{Circuit, Gate}
 use Rattle.numbering.specs.State.{State, qubitOf, origin, role}

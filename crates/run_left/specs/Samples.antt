@@ -7,7 +7,6 @@ use mathlib.Core.List.{List, [], _∷_, map}
 use Prim.Native.Nat.{ℕ}
 use lib.IntN.{ℤ, pos, negℤ}
 use lib.ListN.{replicate, take}
-use Rattle.units.specs.declared.Form.{Form}
 use Rattle.units.specs.declared.Form.the-variants.{Binary}
 use Rattle.penalty.specs.Rows.{rows, rowOf}
 use Rattle.energy.specs.Plain.{wire}

@@ -1,35 +1,31 @@
 -- The end of a run: what the code found is what `within` and `ran` say.
 -- Assumes nothing.
-use mathlib.Core.Path.{_≡_, refl, sym, ap, ap₂, _∙_}
-use mathlib.Core.Bool.{Bool, true, false, cond}
-use mathlib.Core.List.{List, [], _∷_, _++_, map}
+use mathlib.Core.Path.{_≡_, refl, sym, ap, _∙_}
+use mathlib.Core.Bool.{true, false}
+use mathlib.Core.List.{List, [], _∷_, _++_}
 use Prim.Native.Nat.{ℕ, zero, suc, _+_, _-_, _≤_, _<_}
 use native.Mathlib.Omega.{arith}
 use native.Mathlib.Nat.{add-zero}
-use lib.Dec.{eqb}
-use lib.IntN.{ℤ, pos}
+use lib.IntN.{ℤ}
 use lib.ListN.{length, getD, take, drop, replicate}
-use borrow.Author.Tests.{eq-eqb, ne-eqb, lt-ltb, le-ltb}
-use Rattle.circuit.specs.File.{field, nidAt}
+use borrow.Author.Tests.{eq-eqb, ne-eqb, le-ltb}
 use Rattle.circuit.specs.Meaning.{badAt, circuitOf}
-use Rattle.circuit.specs.declared.Refusal.the-variants.{FewValues, OtherCount}
+use Rattle.circuit.specs.declared.Refusal.the-variants.{OtherCount}
 use Rattle.energy.specs.Circuit.{Bad}
-use Rattle.energy.specs.Model.{Entry, energyIn}
+use Rattle.energy.specs.Model.{energyIn}
 use Rattle.units.specs.declared.Form.{Form}
-use Rattle.numbering.specs.State.{State, qubitOf}
+use Rattle.numbering.specs.State.{State}
 use Rattle.pairs.specs.Store.{zip}
-use Rattle.store.specs.Tables.{Tables, tables, modelOf}
+use Rattle.store.specs.Tables.{tables, modelOf}
 use Rattle.outcome.specs.declared.Run.{Run}
 use Rattle.values.specs.declared.Stop.{Stop}
 use Rattle.values.specs.declared.Went.{Went}
-use Rattle.values.specs.Need.{Got, table, stopped, went, andThen, each, isTrue, needOf}
+use Rattle.values.specs.Need.{Got, table, stopped, went, andThen, each, needOf}
 use Rattle.evaluator.specs.Give.{giveAll}
-use Rattle.rules.specs.Layout.{Laid}
 use Rattle.values.specs.Asking.{net}
-use Rattle.rules.specs.Code.{nameIn}
 use Rattle.values.specs.Code.{isStop}
 use Rattle.running.specs.Listed.{trueFrom}
-use Rattle.evaluator.specs.Ran.{Built, builtOf, netOf, refusalOf, refusal, answer, marked, keysOf, withHigher, badQubits, needed, trueNids, settingOf, Done, done, unknowns, finished, valued, within, beside, ran}
+use Rattle.evaluator.specs.Ran.{Built, builtOf, refusalOf, refusal, answer, marked, keysOf, withHigher, badQubits, trueNids, settingOf, done, finished, valued, within, beside, ran}
 use Rattle.values.specs.Code.{stop-now, go-on}
 
 pub chain-stop : (w : Went) (u : List ℕ) {g : Got} (f : List ℕ → Got) → went w u ≡ g → isStop w ≡ true → went w u ≡ andThen g f

@@ -1,16 +1,15 @@
 -- Listing the true bad states: what is listed, with what is left, is the whole; entries after the last are 0.
 -- Assumes nothing.
-use mathlib.Core.Path.{_≡_, refl, sym, ap, ap₂, _∙_}
-use mathlib.Core.Bool.{Bool, true, false, cond}
+use mathlib.Core.Path.{_≡_, refl, sym, ap, _∙_}
+use mathlib.Core.Bool.{true, false}
 use mathlib.Core.List.{List, [], _∷_, _++_, append-assoc, append-nil}
-use Prim.Native.Nat.{ℕ, zero, suc, _+_, _-_, _≤_, _<_}
+use Prim.Native.Nat.{ℕ, suc, _+_, _-_, _≤_, _<_}
 use native.Mathlib.Nat.{sub-zero, add-zero}
 use native.Mathlib.Omega.{arith}
 use native.Mathlib.Numerals.{add-one}
 use lib.ListN.{length, getD, take, drop, set, replicate, length-set, take-append-drop}
 use lib.Seq.{take-suc-set, drop-set-lt, drop-cons, length-take-le}
 use Rattle.circuit.specs.File.{field, nidAt}
-use Rattle.running.specs.declared.Listing.{Listing}
 use Rattle.values.specs.Need.{isTrue}
 use Rattle.rules.specs.Code.{nameIn}
 use Rattle.running.specs.Listed.{trueFrom, listedAs, listedOf}

@@ -1,15 +1,14 @@
 -- Tables that a model fills: its pairs stand at the front of the pair tables, and the rest of these is 0. Every step of the build keeps that.
 -- Assumes nothing.
-use mathlib.Core.Path.{_≡_, refl, sym, ap, _∙_}
-use mathlib.Core.List.{List, [], _∷_, _++_}
+use mathlib.Core.Path.{_≡_, sym, ap, _∙_}
+use mathlib.Core.List.{List, _++_}
 use Prim.Native.Nat.{ℕ, _+_, _-_, _≤_}
 use native.Mathlib.Omega.{arith}
-use lib.IntN.{ℤ, pos}
-use lib.ListN.{length, take, drop, replicate, length-append, length-replicate, take-append-drop}
-use lib.Seq.{take-append-seam, drop-append-seam, length-take-le}
+use lib.ListN.{length, drop, replicate, length-append, length-replicate}
+use lib.Seq.{take-append-seam, drop-append-seam}
 use Rattle.energy.specs.Model.{Entry, Model}
-use Rattle.pairs.specs.Store.{none, front, over}
-use Rattle.pairs.specs.Over.{over-zeros, over-more}
+use Rattle.pairs.specs.Store.{none, front}
+use Rattle.pairs.specs.Over.{over-zeros}
 use Rattle.store.specs.Tables.{Tables, modelOf, hold}
 
 -- pair tables of k entries

@@ -5,7 +5,7 @@ ghost use mathlib.Core.Path.{_≡_};
 ghost use lib.IntN.{pos};
 ghost use Rattle.laws.specs.Equal.{eqZ};
 ghost use Rattle.units.specs.Halves.{halvesOf, energyOf};
-ghost use Rattle.units.specs.Name.{qubit, constant, firstNew};
+ghost use Rattle.units.specs.Name.{constant, firstNew};
 
 // The form of a model: a false qubit counts 0 in the one and -1 in the other.
 pub enum Form {

@@ -1,8 +1,8 @@
 -- What the code reads means what 01 says: the rule that it makes is the name's law, its operands are the law's, and it settles a qubit as the law does.
 -- Assumes nothing.
-use mathlib.Core.Path.{_≡_, refl, sym, ap, ap₂, _∙_, subst}
+use mathlib.Core.Path.{_≡_, refl, sym, ap, ap₂, _∙_}
 use mathlib.Core.Bool.{Bool, true, false, cond}
-use mathlib.Core.List.{List, [], _∷_, _++_, map}
+use mathlib.Core.List.{List, _++_, map}
 use Prim.Native.Nat.{ℕ, zero, suc, _+_, _*_, _-_, _/_, _%_, _≤_, _<_}
 use native.Mathlib.Omega.{arith}
 use native.Mathlib.Nat.{add-zero}
@@ -12,11 +12,11 @@ use lib.ListN.{length, getD, List·getD-map}
 use Rattle.circuit.specs.declared.GateKind.{GateKind}
 use Rattle.circuit.specs.declared.GateKind.the-variants as kind
 use Rattle.circuit.specs.File.{field, kindAt, byte1}
-use Rattle.circuit.specs.Meaning.{listOf, gateOf, gateAt, badAt, circuitOf}
-use Rattle.energy.specs.Circuit.{Bad, Gate, ConstFalse}
+use Rattle.circuit.specs.Meaning.{listOf, gateOf, gateAt, circuitOf}
+use Rattle.energy.specs.Circuit.{Bad, ConstFalse}
 use Rattle.units.specs.declared.Qubit.{Qubit}
 use Rattle.units.specs.Name.{qubit}
-use Rattle.numbering.specs.State.{State, mk, origin, role, qubitOf}
+use Rattle.numbering.specs.State.{State, origin, role, qubitOf}
 use Rattle.numbering.specs.Numbered.{badGates}
 use Rattle.rules.specs.declared.Rule.{Rule}
 use Rattle.rules.specs.declared.Rule.the-variants as rule
@@ -25,9 +25,8 @@ use Rattle.rules.specs.declared.Act.the-variants as act
 use Rattle.values.specs.declared.settle.Value.the-variants as value
 use Rattle.values.specs.declared.Stop.the-variants.{ZeroDivisor}
 use Rattle.rules.specs.Rules.{Law, resultLaw, carryLaw, auxLaw, joinLaw, lawOf, operands}
-use Rattle.values.specs.Need.{Got, stopped, decide, put, bitOf, number, divided, settle}
+use Rattle.values.specs.Need.{stopped, decide, put, bitOf, number, divided, settle}
 use Rattle.rules.specs.Layout.{named, isDivision, Laid, Formed}
-use Rattle.values.specs.Asking.{Ready}
 use Rattle.rules.specs.Code.{nameIn, meant, resultRule, adderRule, fewOf, actOf, readingOf, ruleBy, joinRule, ruleAt, RuleAsked, partOf, PartAsked, ListsAsked, operandsBy, operandsOf, bitsAt, read}
 use Rattle.values.specs.Code.{dividedBy, valueIn, settled, PartsAsked}
 

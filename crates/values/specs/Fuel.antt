@@ -1,7 +1,7 @@
 -- The one equation of a value that is needed: a step whose recursive calls are such values again. Nothing outside this file speaks of fuel.
 --     needOf-step    the equation
 -- Assumes nothing.
-use mathlib.Core.Path.{_≡_, refl, ap, _∙_}
+use mathlib.Core.Path.{_≡_, refl, ap}
 use mathlib.Core.Bool.{Bool, true, false}
 use mathlib.Core.List.{List, [], _∷_}
 use Prim.Native.Nat.{ℕ, zero, suc, _<_}
@@ -10,7 +10,7 @@ use lib.Dec.{eqb}
 use lib.ListN.{getD}
 use Rattle.energy.specs.Circuit.{Circuit}
 use Rattle.numbering.specs.State.{State}
-use Rattle.rules.specs.Rules.{Law, operands, depth}
+use Rattle.rules.specs.Rules.{operands, depth}
 use Rattle.values.specs.Need.{Got, table, stopped, andThen, decide, each, put, settle, Net, lawIn, fixedAt, follow, step, need, needOf}
 use Rattle.rules.specs.Layout.{AllLess, Formed}
 

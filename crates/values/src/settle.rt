@@ -13,7 +13,7 @@ ghost use mathlib.Core.Path.{_≡_};
 ghost use mathlib.Core.List.{map};
 ghost use mathlib.Core.Bool.{cond};
 ghost use Prim.Native.Nat.{_+_, _*_, _/_, _%_, _≤_, _<_};
-ghost use lib.ListN.{length, set};
+ghost use lib.ListN.{length};
 ghost use Rattle.values.specs.Need.{isTrue, bit, bitOf, number, went};
 ghost use Rattle.rules.specs.Layout.{named};
 ghost use Rattle.rules.specs.Code.{nameIn};

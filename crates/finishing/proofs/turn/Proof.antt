@@ -1,6 +1,6 @@
 -- `finishing::turn` meets its contract.
 -- Assumes nothing.
-use mathlib.Core.Path.{_≡_, sym, ap, _∙_}
+use mathlib.Core.Path.{sym, ap, _∙_}
 use native.Mathlib.Omega.{arith}
 use Rattle.pairs.proofs.Tables.{length-zip}
 use Rattle.store.specs.Tables.{Tables, tables, modelOf, hold}

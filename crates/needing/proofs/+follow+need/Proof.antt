@@ -13,7 +13,6 @@ use Rattle.circuit.specs.Meaning.{circuitOf}
 use Rattle.numbering.specs.State.{mk}
 use Rattle.rules.specs.Rules.{lawOf, operands, depth}
 use Rattle.values.specs.Asking.{Asked}
-use Rattle.rules.specs.Code.{read}
 use Rattle.needing.proofs.Cycle.{rule-there, lists, count-asked, parts, reads, count-is, operand-asked, settles, Going, going-start, going-asked, going-on, going-stop, going-end, had, was-fixed, by-rule}
 use Rattle.needing.proofs.follow.Reads as follow
 use Rattle.needing.proofs.follow.Kinds as follow-kinds

@@ -1,6 +1,6 @@
 -- `placing::place_all` meets its contract: before each turn the tables hold the log of the names so far (`Blank`).
 -- Assumes nothing.
-use mathlib.Core.Path.{_≡_, refl, sym, ap, _∙_}
+use mathlib.Core.Path.{_≡_, refl, _∙_}
 use Prim.Native.Nat.{_-_}
 use native.Mathlib.Omega.{arith}
 use lib.ListN.{length}

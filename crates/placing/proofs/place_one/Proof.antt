@@ -1,6 +1,5 @@
 -- `placing::place_one` meets its contract.
 -- Assumes nothing.
-use mathlib.Core.Path.{_≡_, sym, ap, _∙_}
 use Rattle.placing.proofs.OneRow.{row-placed, none-placed}
 use Rattle.store.specs.Tables.{tables}
 use borrow.Author.Needs.{needs}

@@ -1,13 +1,12 @@
 -- `place_rows` meets its contract: the bounds that placing asks follow from what each penalty adds (`Rounds`).
 -- Assumes nothing.
 use mathlib.Core.List.{[]}
-use mathlib.Core.Path.{_≡_, refl, sym, ap, _∙_, subst}
-use Prim.Native.Nat.{_-_, _≤_, _<_}
+use mathlib.Core.Path.{_≡_, refl, sym, ap, _∙_}
+use Prim.Native.Nat.{_-_, _≤_}
 use native.Mathlib.Omega.{arith}
-use lib.ListN.{length}
 use Rattle.penalty.specs.declared.Kind.the-variants.{Full}
 use Rattle.penalty.specs.declared.Penalty.{Penalty}
-use Rattle.energy.specs.Mass.{Few, few-row}
+use Rattle.energy.specs.Mass.{few-row}
 use Rattle.store.specs.Tables.{tables}
 use Rattle.qubo.specs.Wiring.{slotsOf}
 use Rattle.qubo.specs.Room.{filled, filled-row}

@@ -1,6 +1,6 @@
 -- `rows::gate_row` meets its contract: what the gate's kind is ruled by.
 -- Assumes nothing.
-use mathlib.Core.Path.{_≡_, sym, ap, ap₂, _∙_, subst}
+use mathlib.Core.Path.{sym, ap, _∙_, subst}
 use Rattle.rows.specs.declared.Placed.the-variants.{At}
 use Rattle.rows.specs.Found.{ruledBy, found, rowsBy}
 use Rattle.rows.specs.Rowed.{OperandsBy}

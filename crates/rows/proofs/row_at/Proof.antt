@@ -1,7 +1,6 @@
 -- `rows::row_at` meets its contract, by the laws of the tables of a numbered circuit (`Rowed`).
 -- Assumes nothing.
-use mathlib.Core.Path.{_≡_, sym, ap, _∙_}
-use mathlib.Core.Logic.{_⊎_}
+use mathlib.Core.Path.{ap, _∙_}
 use native.Mathlib.Omega.{arith}
 use Rattle.rows.specs.Found.{found}
 use Rattle.rows.specs.Rowed.{fin, ruling, gate-found, joining, join-found, none-found}

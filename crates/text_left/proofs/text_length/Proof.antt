@@ -1,12 +1,8 @@
 -- `text_left::text_length` meets its contract: what is printed into nothing tells its length.
 -- Assumes nothing.
-use mathlib.Core.Path.{_∙_, ap}
-use lib.IntN.{ℤ}
-use lib.ListN.{length}
 use borrow.Author.Needs.{needs}
 use mir.Facts.{toZ-ofZ}
 use Rattle.text.specs.Paste.{printed-length}
-use Rattle.text.specs.Text.{layout, sheetBy}
 use Rattle.text_left.proofs.text_length.Statement.{statement}
 use Rattle.text_left.proofs.text_length.Tie as tie
 

@@ -1,7 +1,6 @@
 -- `units::f64_of_halves` meets its contract: the nearest float of the count, times 0.5, is what the definition says.
 -- Assumes nothing.
 use mathlib.Core.Path.{ap, _∙_}
-use lib.IntN.{ℤ}
 use lib.Ieee.{Float, binary64, mul, ofInt, ofBits}
 use borrow.Author.Needs.{needs}
 use mir.Facts.{toZ-ofZ}

@@ -1,6 +1,5 @@
 -- `answer::answer_of` meets its contract: each arm knows what became of the tables.
 -- Assumes nothing.
-use Rattle.built.specs.Parts.{answerOf}
 use borrow.Author.Needs.{needs}
 use Rattle.built.proofs.answer.answer_of.Statement.{statement}
 use Rattle.built.proofs.answer.answer_of.Tie as tie

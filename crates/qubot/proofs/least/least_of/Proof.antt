@@ -1,6 +1,6 @@
 -- `least::least_of` meets its contract.
 -- Assumes nothing.
-use mathlib.Core.Path.{_≡_, ap, ap₂, _∙_}
+use mathlib.Core.Path.{ap₂, _∙_}
 use Rattle.built.specs.Built.{lesser}
 use borrow.Author.Needs.{needs}
 use Rattle.qubot.proofs.least.least_of.Statement.{statement}
