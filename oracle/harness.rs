@@ -7,6 +7,7 @@
 // Two words serve the speed benchmark: `fill` fills each GateModel and answers nothing more, and `adders N` places 1,019 full adders into the original's
 // Qubo, N times.
 #![allow(dead_code, unused_imports, clippy::all)]
+#![no_main]
 mod unicorn;
 
 use std::cell::RefCell;
@@ -242,15 +243,18 @@ fn place_adders(rounds: usize) {
     println!("{}", pairs);
 }
 
-fn main() {
+// C's main: Rust's own start reads /proc/self/maps, at which the kit's emulator ends.
+#[no_mangle]
+pub extern "C" fn main() -> i32 {
     std::panic::set_hook(Box::new(|_| {}));
     let words: Vec<String> = std::env::args().skip(1).collect();
     if words.len() == 2 && words[0] == "adders" {
-        return place_adders(words[1].parse().unwrap());
+        place_adders(words[1].parse().unwrap());
+        return 0;
     }
     let only_fill = words.len() == 1 && words[0] == "fill";
     let worker = std::thread::Builder::new().stack_size(1 << 30).spawn(move || answers(only_fill)).unwrap();
-    worker.join().unwrap();
+    worker.join().is_err() as i32
 }
 
 fn answers(only_fill: bool) {
@@ -283,4 +287,5 @@ fn answers(only_fill: bool) {
         };
         out.write_all(&said).unwrap();
     }
+    out.flush().unwrap();
 }
