@@ -3,8 +3,7 @@
 use mathlib.Core.Path.{_≡_, sym, _∙_}
 use mathlib.Core.Bool.{cond}
 use mathlib.Core.List.{List, _++_}
-use Prim.Native.Nat.{ℕ}
-use lib.Dec.{ltb}
+use Prim.Native.Nat.{ℕ, min}
 use lib.ListN.{length, drop}
 use Rattle.units.specs.declared.Form.{Form}
 use Rattle.units.specs.Name.{gate, qubit}
@@ -25,20 +24,17 @@ pub use Rattle.filling.specs.Tables.{Tables, lent, zeroed, padded, filled}
 
 -- ---- "the tables hold": so many gates, qubits and pairs
 
-abbrev pub lesser : ℕ → ℕ → ℕ
-lesser a b = cond (ltb b a) b a
-
 abbrev pub gatesIn : Tables → ℕ
 gatesIn t = length (t .qubits)
 
 -- the least of the six tables by qubit
 abbrev pub namesIn : Tables → ℕ
 namesIn t =
-    lesser (lesser (lesser (length (t .origins)) (length (t .roles))) (lesser (length (t .linear)) (length (t .hasLinear))))
-    (lesser (length (t .hasRow)) (length (t .fixed)))
+    min (min (min (length (t .origins)) (length (t .roles))) (min (length (t .linear)) (length (t .hasLinear))))
+    (min (length (t .hasRow)) (length (t .fixed)))
 
 abbrev pub pairsIn : Tables → ℕ
-pairsIn t = lesser (length (t .keys)) (length (t .weights))
+pairsIn t = min (length (t .keys)) (length (t .weights))
 
 -- ---- what stands in them afterwards, within the lengths of 7
 

@@ -7,7 +7,6 @@ use Prim.Native.Nat.{ℕ, _+_, _*_, _≤_}
 use native.Mathlib.Omega.{arith}
 use lib.ListN.{length, take, drop}
 use lib.Seq.{length-take-le}
-use Rattle.laws.specs.Test.{by-ltb}
 use Rattle.units.specs.declared.Form.{Form}
 use Rattle.energy.specs.Circuit.{Circuit}
 use Rattle.energy.specs.Model.{variables}
@@ -27,7 +26,7 @@ use Rattle.filling.specs.Made.{Made, already, clashes, model, make}
 use Rattle.filling.specs.Tables.{filledBy}
 use Rattle.built.specs.declared.Built.{Built}
 use Rattle.built.specs.declared.Built.the-variants.{Done, Refused}
-use Rattle.built.specs.Built.{Tables, lent, lesser, gatesIn, namesIn, pairsIn, onto, finishedBy, inTables, checkedBy, built}
+use Rattle.built.specs.Built.{Tables, lent, gatesIn, namesIn, pairsIn, onto, finishedBy, inTables, checkedBy, built}
 -- what the steps on tables of exactly the lengths of 7 ask
 pub use Rattle.filling.specs.Parts.{Passed, NameTables, ModelTables, gates-are, list-bits-are, bads-are, constraints-are, counted, gates-few, bads-few, list-bits-few, is-prepared, good}
 
@@ -68,34 +67,21 @@ pub record Enough (k : Counts) (t : Tables) : Type 0 where
   pub keys : 10 * k .gates + 3 * k .«bad_states» ≤ length (t .keys)
   pub weights : 10 * k .gates + 3 * k .«bad_states» ≤ length (t .weights)
 
-lesser-first : (a b : ℕ) → lesser a b ≤ a
-lesser-first a b = by-ltb b a (λ x. cond x b a ≤ a) (λ h. omega arith) (λ h. omega arith)
-
-lesser-second : (a b : ℕ) → lesser a b ≤ b
-lesser-second a b = by-ltb b a (λ x. cond x b a ≤ b) (λ h. omega arith) (λ h. omega arith)
-
 -- so the check says
 pub enough : {b : List ℕ} {k : Counts} (t : Tables) → Accepts b (gatesIn t) (namesIn t) (pairsIn t) k → Enough k t
 enough {b} {k} t a =
-    let x : ℕ = lesser (length (t .origins)) (length (t .roles)) in
-    let y : ℕ = lesser (length (t .linear)) (length (t .hasLinear)) in
-    let z : ℕ = lesser (length (t .hasRow)) (length (t .fixed)) in
     let m : 3 * k .gates + k .«bad_states» + 1 ≤ namesIn t = a .enoughQubits in
-    let mx : 3 * k .gates + k .«bad_states» + 1 ≤ lesser (length (t .origins)) (length (t .roles)) =
-    omega (arith, m, lesser-first (lesser x y) z, lesser-first x y) in
-    let my : 3 * k .gates + k .«bad_states» + 1 ≤ lesser (length (t .linear)) (length (t .hasLinear)) =
-    omega (arith, m, lesser-first (lesser x y) z, lesser-second x y) in
-    let mz : 3 * k .gates + k .«bad_states» + 1 ≤ lesser (length (t .hasRow)) (length (t .fixed)) = omega (arith, m, lesser-second (lesser x y) z) in
+    let n : 10 * k .gates + 3 * k .«bad_states» ≤ pairsIn t = a .enoughPairs in
     record {
       qubits = a .enoughGates;
-      origins = omega (arith, mx, lesser-first (length (t .origins)) (length (t .roles)));
-      roles = omega (arith, mx, lesser-second (length (t .origins)) (length (t .roles)));
-      linear = omega (arith, my, lesser-first (length (t .linear)) (length (t .hasLinear)));
-      hasLinear = omega (arith, my, lesser-second (length (t .linear)) (length (t .hasLinear)));
-      hasRow = omega (arith, mz, lesser-first (length (t .hasRow)) (length (t .fixed)));
-      fixed = omega (arith, mz, lesser-second (length (t .hasRow)) (length (t .fixed)));
-      keys = omega (arith, a .enoughPairs, lesser-first (length (t .keys)) (length (t .weights)));
-      weights = omega (arith, a .enoughPairs, lesser-second (length (t .keys)) (length (t .weights)));
+      origins = omega (arith, m);
+      roles = omega (arith, m);
+      linear = omega (arith, m);
+      hasLinear = omega (arith, m);
+      hasRow = omega (arith, m);
+      fixed = omega (arith, m);
+      keys = omega (arith, n);
+      weights = omega (arith, n);
     }
 
 module _ {b : List ℕ} {k : Counts} (passed : Passed b k) {t : Tables} (room : Enough k t) where

@@ -2,11 +2,11 @@
 use crate::Asked;
 use crate::Head;
 use crate::Job;
-use crate::numbers::lesser;
 use crate::numbers::value_at;
 use records::half_at;
 use records::word_at;
 use units::Form;
+use units::lesser;
 ghost use mathlib.Core.List.{_++_};
 ghost use mathlib.Core.Path.{_≡_};
 ghost use Prim.Native.Nat.{_*_, _≤_};

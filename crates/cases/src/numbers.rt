@@ -1,7 +1,7 @@
-// The value of eight bytes, low byte first, and the lesser of two numbers.
+// The value of eight bytes, low byte first.
 use records::word_at;
 ghost use mathlib.Core.Path.{_≡_};
-ghost use Prim.Native.Nat.{_+_, _≤_, min};
+ghost use Prim.Native.Nat.{_+_, _≤_};
 ghost use lib.ListN.{length};
 ghost use Rattle.cases.specs.Values.{signedOf, valueAt};
 
@@ -25,11 +25,4 @@ pub fn value_at(s: &[u8], at: usize) -> i64
     let low = word_at(s, at) as u64;
     let high = word_at(s, at + 4) as u64;
     signed(low + 4294967296 * high)
-}
-
-// The lesser of two.
-pub fn lesser(a: usize, b: usize) -> usize
-    ensures { λ r. ⌜ r ≡ min a b ⌝ }
-{
-    if a < b { a } else { b }
 }

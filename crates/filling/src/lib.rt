@@ -1,7 +1,7 @@
 // The names and the finished model of a circuit that passed the checks, in tables of exactly the lengths of 7; or refusal 8 or 9, with all of them zeroed.
 use circuit::Counts;
-use clear::clear_model;
-use clear::clear_names;
+use clearing::clear_model;
+use clearing::clear_names;
 use finishing::Counted;
 use parts::fill_model;
 use parts::is_model;
@@ -15,7 +15,6 @@ ghost use Rattle.filling.specs.Made.{make};
 ghost use Rattle.filling.specs.Tables.{lent, filledBy};
 ghost use Rattle.filling.specs.Parts.{Passed, NameTables, ModelTables};
 
-pub mod clear;
 pub mod parts;
 
 // What became of the tables.

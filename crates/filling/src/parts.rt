@@ -1,8 +1,8 @@
 // The steps on tables of exactly the lengths of 7. Where a step refuses, the tables are still to be zeroed.
 use crate::Filled;
-use crate::clear::clear_model;
-use crate::clear::clear_names;
 use circuit::Counts;
+use clearing::clear_model;
+use clearing::clear_names;
 use lists::list_starts;
 use modelling::Modelled;
 use modelling::model::make_model;

@@ -1,44 +1,25 @@
--- What the timing program's loops keep: a table that is zeroed from the front, and tables that grow by one penalty at a time.
+-- What the timing program's loops keep: tables that grow by one penalty at a time.
 -- Assumes nothing.
-use mathlib.Core.List.{List, [], _∷_, _++_}
-use mathlib.Core.Path.{_≡_, sym, ap, _∙_}
-use Prim.Native.Nat.{ℕ, _+_, _*_, _≤_, _<_}
-use native.Mathlib.Numerals.{add-one}
+use mathlib.Core.List.{List}
+use mathlib.Core.Path.{_≡_, ap}
+use Prim.Native.Nat.{ℕ, _+_, _*_, _≤_}
 use native.Mathlib.Omega.{arith}
-use lib.IntN.{ℤ, pos, natAbs}
-use lib.ListN.{length, take, set, length-set}
-use lib.Seq.{take-suc-set, take-all}
+use lib.IntN.{ℤ, pos}
+use lib.ListN.{length, replicate}
 use Rattle.penalty.specs.declared.Kind.the-variants.{Full}
 use Rattle.penalty.specs.declared.Penalty.{Penalty}
 use Rattle.penalty.specs.Rows.{Slot, rowOf}
 use Rattle.energy.specs.Model.{sizes, mass}
-use Rattle.energy.specs.Mass.{few-row}
+use Rattle.energy.specs.Mass.{few-row, mass-empty}
 use Rattle.store.specs.Tables.{Tables, tables, modelOf, hold}
 use Rattle.qubo.specs.Logged.{logged}
 use Rattle.qubo.specs.Room.{filled, filled-row}
 use Rattle.qubo.specs.Growth.{placed-count, placed-mass}
 
--- ---- zeros
-
-pub record Zeroing (l₀ l : List ℤ) (i : ℕ) : Type 0 where
-  pub kept : length l ≡ length l₀
-  pub none-left : sizes (take i l) ≡ 0
-
-sizes-snoc : (s : List ℤ) (c : ℤ) → sizes (s ++ c ∷ []) ≡ sizes s + natAbs c
-sizes-snoc [] c = omega arith
-sizes-snoc (d ∷ s) c = let r = sizes-snoc s c in omega arith
-
-pub zero-turn : {l₀ l : List ℤ} {i : ℕ} → Zeroing l₀ l i → i < length l → Zeroing l₀ (set l i (pos 0)) (i + 1)
-zero-turn {l₀} {l} {i} z more =
-    record {
-      kept = length-set l i (pos 0) ∙ z .kept;
-      none-left = rw add-one (omega (arith, ap sizes (take-suc-set l i (pos 0) more), sizes-snoc (take i l) (pos 0), z .none-left));
-    }
-
-pub zero-done : {l₀ l : List ℤ} {i : ℕ} → Zeroing l₀ l i → length l ≤ i → sizes l ≡ 0
-zero-done {l₀} {l} {i} z done = ap sizes (sym (take-all i l done)) ∙ z .none-left
-
--- ---- penalties in turn
+-- a zeroed table weighs nothing
+pub zeros-weigh : {l : List ℤ} (n : ℕ) → l ≡ replicate n (pos 0) → sizes l ≡ 0
+unfolding mass
+zeros-weigh n e = rw e (omega (arith, mass-empty n))
 
 pub record Growing (t : Tables) (i : ℕ) : Type 0 where
   pub count : t .count ≤ 10 * i

@@ -1,4 +1,5 @@
 // Times placing and settling at 10,190 pairs: 1,019 full adders at qubits in no order, fifty times. It writes how many pairs the model has.
+use clearing::zero_i64;
 use libc::STDOUT_FILENO;
 use penalty::Kind;
 use qubo::Wires;
@@ -44,17 +45,6 @@ fn wires_of(i: usize) -> Wires
     }
 }
 
-// No coefficient is left.
-fn zero_all(linear: &mut [i64])
-    ensures { λ _. ⌜ sizes (now (linear .exit)) ≡ 0 ⌝ }
-{
-    let mut i = 0;
-    while i < linear.len() {
-        linear[i] = 0;
-        i += 1;
-    }
-}
-
 // Places `n` full adders.
 fn place_rows(
     linear: &mut [i64],
@@ -94,7 +84,7 @@ fn build(
     requires { ⌜ (length (now linear) ≡ 3065) × (length (now present) ≡ 3065) × (length (now rows) ≡ 3065) ⌝ }
     requires { ⌜ (length (now keys) ≡ 10190) × (length (now weights) ≡ 10190) × (length (now sk) ≡ 10190) × (length (now sw) ≡ 10190) ⌝ }
 {
-    zero_all(linear);
+    zero_i64(linear);
     let t = place_rows(linear, present, rows, keys, weights, 1019);
     let u = settle(keys, weights, sk, sw, t);
     u.count

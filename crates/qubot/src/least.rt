@@ -1,15 +1,10 @@
-// The least of some lengths.
+// The least of six lengths.
+use units::lesser;
 ghost use mathlib.Core.Path.{_≡_};
-ghost use Rattle.built.specs.Built.{lesser};
-
-pub fn lesser(a: usize, b: usize) -> usize
-    ensures { λ r. ⌜ r ≡ lesser a b ⌝ }
-{
-    if b < a { b } else { a }
-}
+ghost use Prim.Native.Nat.{min};
 
 pub fn least_of(a: usize, b: usize, c: usize, d: usize, e: usize, f: usize) -> usize
-    ensures { λ r. ⌜ r ≡ lesser (lesser (lesser a b) (lesser c d)) (lesser e f) ⌝ }
+    ensures { λ r. ⌜ r ≡ min (min (min a b) (min c d)) (min e f) ⌝ }
 {
     let x = lesser(a, b);
     let y = lesser(c, d);

@@ -13,9 +13,10 @@ use text::write::put_bytes;
 use text::write::put_decimal;
 use text::write::put_lead;
 use units::Energy;
+use units::lesser;
 ghost use mathlib.Core.Path.{_≡_};
 ghost use mathlib.Core.List.{_++_};
-ghost use Prim.Native.Nat.{_≤_, min};
+ghost use Prim.Native.Nat.{_≤_};
 ghost use lib.ListN.{take};
 ghost use Rattle.text.specs.Paste.{Printed};
 ghost use Rattle.text.specs.Text.{lines};
@@ -45,13 +46,6 @@ fn print_ran(e: Energy, hit: bool, nids: &[u64; 64], n: usize, buf: &mut [u8]) -
     put_hit(buf, last, hit)
 }
 
-// How many of a run's nids there are: no more than the array has.
-fn listed(count: usize) -> usize
-    ensures { λ r. ⌜ r ≡ min count 64 ⌝ }
-{
-    if count < 64 { count } else { 64 }
-}
-
 // The lines of a run: any answer, any buffer.
 pub fn print_run(r: Run, buf: &mut [u8]) -> usize
     ensures { λ n. ⌜ Printed (runLines r) (now (buf .entry)) 0 (now (buf .exit)) n ⌝ }
@@ -59,7 +53,7 @@ pub fn print_run(r: Run, buf: &mut [u8]) -> usize
 {
     let outcome = r.outcome;
     let nids = r.nids;
-    let count = listed(r.count);
+    let count = lesser(r.count, 64);
     match outcome {
         Outcome::Ran(e, hit) => print_ran(e, hit, &nids, count, buf),
         Outcome::Refused(x) => print_refusal(x, buf),

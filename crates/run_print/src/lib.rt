@@ -8,8 +8,8 @@ use output::write_refusal;
 use output::write_run;
 use runs::fresh::run_fresh;
 use units::Form;
+use units::lesser;
 ghost use mathlib.Core.Path.{_≡_};
-ghost use Prim.Native.Nat.{min};
 ghost use lib.ListN.{length};
 ghost use Rattle.run_print.specs.Inside.{Inside};
 
@@ -143,13 +143,6 @@ fn run_file(form: Form, inputs: &[i64]) {
     }
 }
 
-// How many of the values to lend. No circuit has more than 64 inputs, so 65 values are another count than any circuit's, as are more.
-fn lent(values: usize) -> usize
-    ensures { λ r. ⌜ r ≡ min values 65 ⌝ }
-{
-    if values < 65 { values } else { 65 }
-}
-
 // The program, but for the form.
 pub fn run_arguments(form: Form) {
     let count = os::arg_count();
@@ -161,6 +154,7 @@ pub fn run_arguments(form: Form) {
     if !read_values(count, &mut inputs) {
         return;
     }
-    let n = lent(count - 2);
+    // no circuit has more than 64 inputs, so 65 values are another count than any circuit's, as are more
+    let n = lesser(count - 2, 65);
     run_file(form, &inputs[..n]);
 }

@@ -1,5 +1,6 @@
 // A run: values, energy, the true bad states, the verdict; or the refusal.
 use circuit::Refusal;
+use clearing::fill_u8;
 use evaluator::needs::need_all;
 use giving::give_all;
 use outcome::Outcome;
@@ -41,18 +42,6 @@ fn refusal_of(x: Stop) -> Refusal
         Stop::NotUsedUp(k) => Refusal::NotUsedUp(circuit::Input(k)),
         Stop::ZeroDivisor(q) => Refusal::DivisorZero(q),
         Stop::NotGiven(q) => Refusal::NotGiven(q),
-    }
-}
-
-// Every value becomes 2 (unknown).
-fn forget(values: &mut [u8], names: usize)
-    requires { ⌜ names ≡ length (now values) ⌝ }
-    ensures { λ _. ⌜ now (values .exit) ≡ replicate names 2 ⌝ }
-{
-    let mut i: usize = 0;
-    while i < names {
-        values[i] = 2;
-        i += 1;
     }
 }
 
@@ -192,7 +181,7 @@ fn run_within(
     requires { ⌜ RunReady (now circuit) (now starts) (now «input_starts») bads total count (mk (now qubits) (now origins) (now roles) names) (now linear) (now flags) (now rows) (now fixed) (now keys) (now weights) t × (names ≡ length (now values)) ⌝ }
     ensures { λ r. ⌜ done r (now (values .exit)) ≡ within (builtOf (now (circuit .entry)) (mk (now (qubits .entry)) (now (origins .entry)) (now (roles .entry)) names) form (tables (t .offset) (now (linear .entry)) (now (flags .entry)) (now (rows .entry)) (now (fixed .entry)) (now (keys .entry)) (now (weights .entry)) (t .count))) (now (inputs .entry)) ⌝ }
 {
-    forget(values, names);
+    fill_u8(values, 2);
     if inputs.len() != count {
         return refused(Refusal::OtherCount);
     }
@@ -229,7 +218,7 @@ fn run_within(
             form,
         ),
         Went::Stopped(x) => {
-            forget(values, names);
+            fill_u8(values, 2);
             refused(refusal_of(x))
         }
     }

@@ -2,6 +2,7 @@
 // number and a qubit's name are two types, and the one is never accepted for the other.
 // Everywhere else in the project, in tables and in contracts, a coefficient or an energy is a whole count of halves, in the 0/1 form and in the Ising form alike.
 ghost use mathlib.Core.Path.{_≡_};
+ghost use Prim.Native.Nat.{min};
 ghost use lib.IntN.{pos};
 ghost use Rattle.laws.specs.Equal.{eqZ};
 ghost use Rattle.units.specs.Halves.{halvesOf, energyOf};
@@ -72,4 +73,11 @@ pub fn is_hit(e: Energy) -> bool
     ensures { λ r. ⌜ r ≡ eqZ (e .halves) (pos 0) ⌝ }
 {
     e.halves == 0
+}
+
+// The lesser of two counts.
+pub fn lesser(a: usize, b: usize) -> usize
+    ensures { λ r. ⌜ r ≡ min a b ⌝ }
+{
+    if a < b { a } else { b }
 }

@@ -2,17 +2,25 @@
 -- Assumes nothing.
 use mathlib.Core.List.{[]}
 use mathlib.Core.Path.{sym, _∙_}
+use denote.Ref.{now}
 use native.Mathlib.Omega.{arith}
+use lib.ListN.{length}
 use Rattle.qubo.specs.Growth.{settling}
+use Rattle.qubo_bench.proofs.Rounds.{zeros-weigh}
 use borrow.Author.Needs.{needs}
 use Rattle.qubo_bench.proofs.build.Statement.{statement}
 use Rattle.qubo_bench.proofs.build.Tie as tie
 
-zero-all-requires : tie.Need-zero-all-requires
-zero-all-requires c κs = search needs
+zero-i64-requires : tie.Need-zero-i64-requires
+zero-i64-requires c κs = search needs
 
 place-rows-requires : tie.Need-place-rows-requires
-place-rows-requires c κs = search needs
+place-rows-requires c κs =
+    let z = c .before .before .before .before .before .before .zero-i64 in
+    let s = c .before .before .before .before .before .before .before .before .before .before .before .before in
+    let lens = s .pre .0 in
+    let room = s .pre .1 in
+    (z .kept .0 ∙ lens .0, lens .1, lens .2, room .1 ∙ sym (room .0), omega (arith, room .0), omega arith, zeros-weigh (length (now (s .args .linear))) (z .ensures))
 
 settle-requires : tie.Need-settle-requires
 settle-requires c κs =
@@ -52,7 +60,7 @@ pub build-spec : {M : Type 1} → statement M
 build-spec =
     tie.close
     (tie.spec
-    zero-all-requires
+    zero-i64-requires
     place-rows-requires
     settle-requires
     same-length

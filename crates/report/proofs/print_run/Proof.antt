@@ -17,8 +17,8 @@ says : (r : Run) (o : Outcome) (n : ℕ) → r .outcome ≡ o → n ≡ min (r .
 unfolding runLines
 says r o n e f = ap₂ (λ (o : Outcome) (n : ℕ). outcomeLines o (take n (r .nids))) e (sym f)
 
-listed-requires : tie.Need-listed-requires
-listed-requires c κs = search needs
+lesser-requires : tie.Need-lesser-requires
+lesser-requires c κs = search needs
 
 enum-known-outcome : tie.Need-enum-known-outcome
 enum-known-outcome c = search needs
@@ -36,19 +36,19 @@ same-length : tie.Need-same-length
 same-length c = search needs
 
 returns : tie.Need-returns
-returns c = (printed-as (says _ _ _ (c .before .before .before .before .before .before .outcome .given .1) (c .before .before .before .before .before .before .before .before .listed .ensures)) (c .before .before .print-ran .ensures .0), c .before .before .print-ran .ensures .1)
+returns c = (printed-as (says _ _ _ (c .before .before .before .before .before .before .outcome .given .1) (c .before .before .before .before .before .before .before .before .lesser .ensures)) (c .before .before .print-ran .ensures .0), c .before .before .print-ran .ensures .1)
 
 same-length-2 : tie.Need-same-length-2
 same-length-2 c = search needs
 
 returns-2 : tie.Need-returns-2
-returns-2 c = (printed-as (says _ _ _ (c .before .before .before .before .before .outcome2 .given .1) (c .before .before .before .before .before .before .before .listed .ensures)) (c .before .before .print-refusal .ensures .0), omega (arith, c .before .before .print-refusal .ensures .1))
+returns-2 c = (printed-as (says _ _ _ (c .before .before .before .before .before .outcome2 .given .1) (c .before .before .before .before .before .before .before .lesser .ensures)) (c .before .before .print-refusal .ensures .0), omega (arith, c .before .before .print-refusal .ensures .1))
 
 pub print-run-spec : {M : Type 1} → statement M
 print-run-spec =
     tie.close
     (tie.spec
-    listed-requires
+    lesser-requires
     enum-known-outcome
     print-ran-requires
     enum-known-outcome-2

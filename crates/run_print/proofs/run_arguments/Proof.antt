@@ -27,8 +27,8 @@ read-values-requires c κs = search needs
 returns-2 : tie.Need-returns-2
 returns-2 c = search needs
 
-lent-requires : tie.Need-lent-requires
-lent-requires c κs = search needs
+lesser-requires : tie.Need-lesser-requires
+lesser-requires c κs = search needs
 
 array-share-prefix-inputs : tie.Need-array-share-prefix-inputs
 array-share-prefix-inputs c = search needs
@@ -53,7 +53,7 @@ run-arguments-spec =
     slice-aggregate-read-values
     read-values-requires
     returns-2
-    lent-requires
+    lesser-requires
     array-share-prefix-inputs
     slice-aggregate-run-file
     run-file-requires

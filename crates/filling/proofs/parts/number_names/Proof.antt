@@ -9,7 +9,7 @@ use Rattle.filling.proofs.parts.number_names.Reads as reads
 use Rattle.filling.proofs.parts.number_names.Lts as lts
 use Rattle.lists.proofs.list_starts.Reads as list-starts-reads
 use Rattle.roots.proofs.number.Reads as number-reads
-use Rattle.filling.proofs.clear.clear_names.Reads as clear-names-reads
+use Rattle.clearing.proofs.clear_names.Reads as clear-names-reads
 
 clear-names-requires : tie.Need-clear-names-requires
 clear-names-requires c κs = search needs

@@ -1,13 +1,12 @@
 -- `least::least_of` meets its contract.
 -- Assumes nothing.
 use mathlib.Core.Path.{ap₂, _∙_}
-use Rattle.built.specs.Built.{lesser}
+use Prim.Native.Nat.{min}
 use borrow.Author.Needs.{needs}
 use Rattle.qubot.proofs.least.least_of.Statement.{statement}
 use Rattle.qubot.proofs.least.least_of.Tie as tie
 use Rattle.qubot.proofs.least.least_of.Reads as reads
 use Rattle.qubot.proofs.least.least_of.Lts as lts
-use Rattle.qubot.proofs.least.lesser.Reads as lesser-reads
 
 lesser-requires : tie.Need-lesser-requires
 lesser-requires c κs = search needs
@@ -27,7 +26,7 @@ lesser-requires-5 c κs = search needs
 returns : tie.Need-returns
 returns c =
     c .lesser5 .ensures
-    ∙ ap₂ lesser (c .before .lesser4 .ensures ∙ ap₂ lesser (c .before .before .before .before .lesser .ensures) (c .before .before .before .lesser2 .ensures)) (c .before .before .lesser3 .ensures)
+    ∙ ap₂ min (c .before .lesser4 .ensures ∙ ap₂ min (c .before .before .before .before .lesser .ensures) (c .before .before .before .lesser2 .ensures)) (c .before .before .lesser3 .ensures)
 
 pub least-of-spec : {M : Type 1} → statement M
 least-of-spec =

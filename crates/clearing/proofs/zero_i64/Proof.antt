@@ -1,22 +1,22 @@
--- `clear::zero_i64` meets its contract, by the law of `Zeroing`.
+-- `zero_i64` meets its contract, by the law of `Alike`.
 -- Assumes nothing.
 use Prim.Native.Nat.{_-_}
 use native.Mathlib.Omega.{arith}
 use lib.IntN.{pos}
 use lib.ListN.{length, length-set}
 use borrow.Author.Needs.{needs}
-use Rattle.filling.proofs.Zeroing.{Zeroed, zero-starts, zero-turn, zero-ends}
-use Rattle.filling.proofs.clear.zero_i64.Statement.{statement}
-use Rattle.filling.proofs.clear.zero_i64.Tie as tie
+use Rattle.laws.specs.Alike.{Alike, alike-starts, alike-turn, alike-ends}
+use Rattle.clearing.proofs.zero_i64.Statement.{statement}
+use Rattle.clearing.proofs.zero_i64.Tie as tie
 
 abbrev Inv-loop : tie.InvT-loop
-Inv-loop t₀ i₀ t i = Zeroed (pos 0) t₀ t i
+Inv-loop t₀ i₀ t i = Alike (pos 0) t₀ t i
 
 abbrev μ-loop : tie.MeasureT-loop
 μ-loop t₀ i₀ t i = length t - i
 
 loop-holds : tie.Need-loop-holds Inv-loop μ-loop
-loop-holds c = zero-starts (pos 0) _
+loop-holds c = alike-starts (pos 0) _
 
 mul-t : tie.Need-mul-t Inv-loop μ-loop
 mul-t c = search needs
@@ -31,13 +31,13 @@ loop-less : tie.Need-loop-less Inv-loop μ-loop
 loop-less c = simp length-set (omega arith)
 
 loop-again : tie.Need-loop-again Inv-loop μ-loop
-loop-again c = zero-turn (pos 0) _ _ _ (c .before .loop .inv) (c .loop-test .taken)
+loop-again c = alike-turn (pos 0) _ _ _ (c .before .loop .inv) (c .loop-test .taken)
 
 same-length : tie.Need-same-length Inv-loop μ-loop
 same-length c = c .before .loop .inv .same
 
 returns : tie.Need-returns Inv-loop μ-loop
-returns c = zero-ends (pos 0) _ _ _ (c .before .loop .inv) (omega arith)
+returns c = alike-ends (pos 0) _ _ _ (c .before .loop .inv) (omega arith)
 
 pub zero-i64-spec : {M : Type 1} → statement M
 zero-i64-spec =

@@ -10,16 +10,16 @@ use lib.Seq.{take-suc-set, take-length}
 
 module _ {A : Type 0} (z : A) where
   -- of t₀, now t, the first i entries are z
-  pub record Zeroed (t₀ t : List A) (i : ℕ) : Type 0 where
+  pub record Alike (t₀ t : List A) (i : ℕ) : Type 0 where
     pub same : length t ≡ length t₀
     pub within : i ≤ length t
     pub done : take i t ≡ replicate i z
 
-  pub zero-starts : (t : List A) → Zeroed t t 0
-  zero-starts t = record { same = refl; within = omega arith; done = refl }
+  pub alike-starts : (t : List A) → Alike t t 0
+  alike-starts t = record { same = refl; within = omega arith; done = refl }
 
-  pub zero-turn : (t₀ t : List A) (i : ℕ) → Zeroed t₀ t i → i < length t → Zeroed t₀ (set t i z) (i + 1)
-  zero-turn t₀ t i v h =
+  pub alike-turn : (t₀ t : List A) (i : ℕ) → Alike t₀ t i → i < length t → Alike t₀ (set t i z) (i + 1)
+  alike-turn t₀ t i v h =
       record {
         same = length-set t i z ∙ v .same;
         within = rw length-set (omega arith);
@@ -29,7 +29,7 @@ module _ {A : Type 0} (z : A) where
             ∙ replicate-append-replicate i 1 z;
       }
 
-  pub zero-ends : (t₀ t : List A) (i : ℕ) → Zeroed t₀ t i → (i < length t → ⊥) → t ≡ replicate (length t₀) z
-  zero-ends t₀ t i v n =
+  pub alike-ends : (t₀ t : List A) (i : ℕ) → Alike t₀ t i → (i < length t → ⊥) → t ≡ replicate (length t₀) z
+  alike-ends t₀ t i v n =
       let e : i ≡ length t = omega (arith, v .within) in
       sym (take-length t) ∙ ap (λ (k : ℕ). take k t) (sym e) ∙ v .done ∙ ap (λ (k : ℕ). replicate k z) (e ∙ v .same)

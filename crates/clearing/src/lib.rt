@@ -1,14 +1,14 @@
-// Zeroing tables.
+// Tables with one value in each entry.
 ghost use mathlib.Core.Path.{_≡_};
 ghost use lib.IntN.{pos};
 ghost use lib.ListN.{length, replicate};
 
-pub fn zero_u8(t: &mut [u8])
-    ensures { λ _. ⌜ now (t .exit) ≡ replicate (length (now (t .entry))) 0 ⌝ }
+pub fn fill_u8(t: &mut [u8], x: u8)
+    ensures { λ _. ⌜ now (t .exit) ≡ replicate (length (now (t .entry))) x ⌝ }
 {
     let mut i = 0;
     while i < t.len() {
-        t[i] = 0;
+        t[i] = x;
         i += 1;
     }
 }
@@ -49,7 +49,7 @@ pub fn clear_names(qubits: &mut [u16], origins: &mut [u16], roles: &mut [u8])
 {
     zero_u16(qubits);
     zero_u16(origins);
-    zero_u8(roles);
+    fill_u8(roles, 0);
 }
 
 // The tables of the model.
@@ -64,9 +64,9 @@ pub fn clear_model(
     ensures { λ _. ⌜ (now (linear .exit) ≡ replicate (length (now (linear .entry))) (pos 0)) × (now (present .exit) ≡ replicate (length (now (present .entry))) 0) × (now (rows .exit) ≡ replicate (length (now (rows .entry))) 0) × (now (fixed .exit) ≡ replicate (length (now (fixed .entry))) 0) × (now (keys .exit) ≡ replicate (length (now (keys .entry))) 0) × (now (weights .exit) ≡ replicate (length (now (weights .entry))) (pos 0)) ⌝ }
 {
     zero_i64(linear);
-    zero_u8(present);
-    zero_u8(rows);
-    zero_u8(fixed);
+    fill_u8(present, 0);
+    fill_u8(rows, 0);
+    fill_u8(fixed, 0);
     zero_u32(keys);
     zero_i64(weights);
 }
