@@ -10,105 +10,80 @@ use units::Qubit;
 ghost use mathlib.Core.Path.{_≡_};
 ghost use Prim.Native.Nat.{_+_, _≤_, _<_};
 ghost use lib.ListN.{length, getD};
-ghost use Rattle.rules.specs.Code.{fewOf, actOf, PartAsked, partOf, ListsAsked, operandsOf, countOf, fewAt, OperandAsked, read};
+ghost use Rattle.units.specs.Name.{qubit};
+ghost use Rattle.rules.specs.Code.{few, fewOf, actOf, PartAsked, partOf, ListsAsked, operandsOf, countOf, fewAt, OperandAsked, read};
+
+fn none() -> Few
+    ensures { λ r. ⌜ r ≡ few 0 (qubit 0) (qubit 0) (qubit 0) ⌝ }
+{
+    Few {
+        n: 0,
+        x1: Qubit(0),
+        x2: Qubit(0),
+        x3: Qubit(0),
+    }
+}
+
+fn one(x: Qubit) -> Few
+    ensures { λ r. ⌜ r ≡ few 1 x (qubit 0) (qubit 0) ⌝ }
+{
+    Few {
+        n: 1,
+        x1: x,
+        x2: Qubit(0),
+        x3: Qubit(0),
+    }
+}
+
+fn two(x: Qubit, y: Qubit) -> Few
+    ensures { λ r. ⌜ r ≡ few 2 x y (qubit 0) ⌝ }
+{
+    Few {
+        n: 2,
+        x1: x,
+        x2: y,
+        x3: Qubit(0),
+    }
+}
+
+fn three(x: Qubit, y: Qubit, z: Qubit) -> Few
+    ensures { λ r. ⌜ r ≡ few 3 x y z ⌝ }
+{
+    Few {
+        n: 3,
+        x1: x,
+        x2: y,
+        x3: z,
+    }
+}
 
 // The operands that stand in the rule itself.
 pub fn few_of(rule: Rule) -> Few
     ensures { λ r. ⌜ r ≡ fewOf rule ⌝ }
 {
     match rule {
-        Rule::Not(x) => Few {
-            n: 1,
-            x1: x,
-            x2: Qubit(0),
-            x3: Qubit(0),
-        },
-        Rule::And(x, y) => Few {
-            n: 2,
-            x1: x,
-            x2: y,
-            x3: Qubit(0),
-        },
-        Rule::Nand(x, y) => Few {
-            n: 2,
-            x1: x,
-            x2: y,
-            x3: Qubit(0),
-        },
-        Rule::Matriarch1(x, y) => Few {
-            n: 2,
-            x1: x,
-            x2: y,
-            x3: Qubit(0),
-        },
-        Rule::Or(x, y) => Few {
-            n: 2,
-            x1: x,
-            x2: y,
-            x3: Qubit(0),
-        },
-        Rule::AuxHalfAdder(x, y) => Few {
-            n: 2,
-            x1: x,
-            x2: y,
-            x3: Qubit(0),
-        },
-        Rule::AuxFullAdder(x, y, z) => Few {
-            n: 3,
-            x1: x,
-            x2: y,
-            x3: z,
-        },
-        Rule::CarryHalfAdder(x, y) => Few {
-            n: 2,
-            x1: x,
-            x2: y,
-            x3: Qubit(0),
-        },
-        Rule::CarryFullAdder(x, y, z) => Few {
-            n: 3,
-            x1: x,
-            x2: y,
-            x3: z,
-        },
-        Rule::ResultHalfAdder(x, y) => Few {
-            n: 2,
-            x1: x,
-            x2: y,
-            x3: Qubit(0),
-        },
-        Rule::ResultFullAdder(x, y, z) => Few {
-            n: 3,
-            x1: x,
-            x2: y,
-            x3: z,
-        },
+        Rule::Not(x) => one(x),
+        Rule::And(x, y) => two(x, y),
+        Rule::Nand(x, y) => two(x, y),
+        Rule::Matriarch1(x, y) => two(x, y),
+        Rule::Or(x, y) => two(x, y),
+        Rule::AuxHalfAdder(x, y) => two(x, y),
+        Rule::AuxFullAdder(x, y, z) => three(x, y, z),
+        Rule::CarryHalfAdder(x, y) => two(x, y),
+        Rule::CarryFullAdder(x, y, z) => three(x, y, z),
+        Rule::ResultHalfAdder(x, y) => two(x, y),
+        Rule::ResultFullAdder(x, y, z) => three(x, y, z),
         Rule::Quotient {
             index: _,
             dividend: _,
             divisor: _,
-        } => Few {
-            n: 0,
-            x1: Qubit(0),
-            x2: Qubit(0),
-            x3: Qubit(0),
-        },
+        } => none(),
         Rule::Remainder {
             index: _,
             dividend: _,
             divisor: _,
-        } => Few {
-            n: 0,
-            x1: Qubit(0),
-            x2: Qubit(0),
-            x3: Qubit(0),
-        },
-        Rule::Invalid => Few {
-            n: 0,
-            x1: Qubit(0),
-            x2: Qubit(0),
-            x3: Qubit(0),
-        },
+        } => none(),
+        Rule::Invalid => none(),
     }
 }
 

@@ -92,7 +92,7 @@ adderRule k h f = byAdder (adderOf k) h f
 -- ---- what a rule reads and does
 
 -- its operands that stand in the rule itself; one that it does not have is qubit 0
-abbrev few : ℕ → Qubit → Qubit → Qubit → Few
+abbrev pub few : ℕ → Qubit → Qubit → Qubit → Few
 few n x y z = record { n = n; x1 = x; x2 = y; x3 = z }
 
 abbrev pub fewOf : Rule → Few
