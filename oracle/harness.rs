@@ -229,7 +229,7 @@ fn add_full_adder(qubo: &mut Qubo, x: [Qubit; 3], z: Qubit, aux: Qubit, carry: Q
     }
 }
 
-// The adders of crates/qubo_bench, at the same qubits. Prints how many pairs the model has.
+// The adders of crates/bench_place, at the same qubits. Prints how many pairs the model has.
 fn place_adders(rounds: usize) {
     let mut pairs = 0;
     for _ in 0..rounds {

@@ -1,5 +1,5 @@
 // The value of eight bytes, low byte first.
-use records::word_at;
+use circuit_records::word_at;
 ghost use mathlib.Core.Path.{_≡_};
 ghost use Prim.Native.Nat.{_+_, _≤_};
 ghost use lib.ListN.{length};

@@ -19,7 +19,7 @@ use Rattle.energy.specs.Circuit.{ConstFalse, nodesOf, AllBelow}
 use Rattle.circuit.specs.File.{field, kindAt}
 use Rattle.circuit.specs.Count.{range}
 use Rattle.circuit.specs.Meaning.{listOf, gateOf}
-use Rattle.naming.specs.declared.Act.{Act}
+use Rattle.numbering_gate.specs.declared.Act.{Act}
 use Rattle.numbering.specs.State.{State, slot}
 use Rattle.numbering.specs.Visit.{oneName, each, visitOf, processOf, visits}
 use Rattle.numbering.specs.Fuel.{operands-below, reads-below, visit-fresh, visit-had}

@@ -14,7 +14,7 @@ use Rattle.circuit.specs.declared.GateKind.{GateKind}
 use Rattle.circuit.specs.declared.GateKind.the-variants as kind
 use Rattle.circuit.specs.File.{field, kindAt}
 use Rattle.circuit.specs.Meaning.{listOf, gateOf, gateAt}
-use Rattle.naming.specs.declared.Act.the-variants.{Share}
+use Rattle.numbering_gate.specs.declared.Act.the-variants.{Share}
 use Rattle.numbering.specs.State.{State}
 use Rattle.numbering.specs.Visit.{oneName, take, operands, each, process, visitOf, processOf, visits}
 use Rattle.numbering.specs.Fuel.{each-append}

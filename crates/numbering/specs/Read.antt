@@ -15,8 +15,8 @@ use Rattle.numbering.specs.Finished.{Formed}
 use Rattle.numbering.specs.declared.Ended.{Ended}
 use Rattle.numbering.specs.declared.Ended.the-variants.{Refused, All}
 -- what a gate of each kind does
-pub use Rattle.naming.specs.Kinds.{arity, actOf, isDivision, Room, CanFinish}
-unfoldable pub use Rattle.naming.specs.Kinds.{finish}
+pub use Rattle.numbering_gate.specs.Kinds.{arity, actOf, isDivision, Room, CanFinish}
+unfoldable pub use Rattle.numbering_gate.specs.Kinds.{finish}
 
 -- ---- lists of gates in the bytes
 

@@ -2,7 +2,7 @@
 use Prim.Native.Nat.{ℕ, _+_, _*_}
 use lib.ListN.{length, replicate}
 use Rattle.energy.specs.Circuit.{Circuit}
-pub use Rattle.naming.specs.State.{State, mk, slot, qubitOf, origin, role}
+pub use Rattle.numbering_gate.specs.State.{State, mk, slot, qubitOf, origin, role}
 
 -- 01's length of a table by name: "3G+B+1 qubits"
 abbrev pub namesOf : Circuit → ℕ

@@ -7,8 +7,8 @@ use Rattle.energy.specs.Circuit.{Gate, ConstFalse, ConstTrue, InputBit, Not, An
 use Rattle.energy.specs.Numbering.{reads}
 use Rattle.numbering.specs.State.{State, slot}
 -- what a gate does with names
-pub use Rattle.naming.specs.Names.{mark, give, keep, choose}
-unfoldable pub use Rattle.naming.specs.Names.{oneName, threeNames, take}
+pub use Rattle.numbering_gate.specs.Names.{mark, give, keep, choose}
+unfoldable pub use Rattle.numbering_gate.specs.Names.{oneName, threeNames, take}
 
 -- what a gate visits before it takes its name, left to right
 abbrev pub operands : Gate → List ℕ

@@ -1,14 +1,14 @@
 // The build: from the bytes of a circuit to the finished model.
-use built::Built;
-use built::answer::answer_of;
-use checks::check;
+use qubot_left::Built;
+use qubot_left::answer::answer_of;
+use circuit_check::check;
 use circuit::Checked;
 use least::least_of;
 use units::Form;
 use units::lesser;
 use whole::fill_tables;
 ghost use mathlib.Core.Path.{_≡_};
-ghost use Rattle.built.specs.Built.{lent, built};
+ghost use Rattle.qubot_left.specs.Built.{lent, built};
 
 pub mod least;
 pub mod whole;

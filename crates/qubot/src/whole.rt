@@ -1,14 +1,14 @@
 // The build on tables that may be longer than the lengths of 7: what stands past those stays.
 use circuit::Counts;
-use filling::Filled;
-use filling::fill;
+use qubot_fill::Filled;
+use qubot_fill::fill;
 use units::Form;
 ghost use mathlib.Core.Path.{_≡_};
 ghost use Rattle.circuit.specs.Meaning.{circuitOf};
-ghost use Rattle.filling.specs.Tables.{filledBy};
-ghost use Rattle.built.specs.Made.{make};
-ghost use Rattle.built.specs.Built.{lent, inTables};
-ghost use Rattle.built.specs.Parts.{Passed, Enough};
+ghost use Rattle.qubot_fill.specs.Tables.{filledBy};
+ghost use Rattle.qubot_left.specs.Made.{make};
+ghost use Rattle.qubot_left.specs.Built.{lent, inTables};
+ghost use Rattle.qubot_left.specs.Parts.{Passed, Enough};
 
 // Bytes that passed the checks 1 to 7: the parts of the tables that 7 names are filled.
 pub fn fill_tables(

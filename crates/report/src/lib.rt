@@ -3,11 +3,11 @@
 use circuit::Refusal;
 use circuit::answers::number_of;
 use circuit::answers::place_of;
-use lines::put_bads;
-use lines::put_energy;
-use lines::put_hit;
-use outcome::Outcome;
-use outcome::Run;
+use report_lines::put_bads;
+use report_lines::put_energy;
+use report_lines::put_hit;
+use run_outcome::Outcome;
+use run_outcome::Run;
 use text::write::put;
 use text::write::put_bytes;
 use text::write::put_decimal;
@@ -20,7 +20,7 @@ ghost use Prim.Native.Nat.{_≤_};
 ghost use lib.ListN.{take};
 ghost use Rattle.text.specs.Paste.{Printed};
 ghost use Rattle.text.specs.Text.{lines};
-ghost use Rattle.lines.specs.Report.{refusalLine, energyLine, badLine, hitLine, runLines};
+ghost use Rattle.report_lines.specs.Report.{refusalLine, energyLine, badLine, hitLine, runLines};
 
 // The line of a refusal.
 pub fn print_refusal(r: Refusal, buf: &mut [u8]) -> usize

@@ -15,8 +15,8 @@ use Rattle.energy.specs.Model.{Model, linearBy, energyBy, energyIn, gated, sign
 use Rattle.energy.specs.Stored.{Additive, gated-add, signed-add, additive-zero}
 use Rattle.store.specs.Tables.{withLinear}
 use Rattle.circuit.specs.declared.Refusal.the-variants.{FewValues, OtherCount}
-use Rattle.evaluator.specs.Need.{Got, table, stopped}
-use Rattle.evaluator.specs.Ran.{Built, done, refusal, answer, settingOf, trueNids, finished, choose, unknowns, valued, within, beside, ran}
+use Rattle.run_meaning.specs.Need.{Got, table, stopped}
+use Rattle.run_meaning.specs.Ran.{Built, done, refusal, answer, settingOf, trueNids, finished, choose, unknowns, valued, within, beside, ran}
 
 module _ (f : Bool → ℤ → ℤ) (fa : Additive f) (σ : Setting) where
   linear-none : (q : ℕ) (l : List ℤ) → ((i : ℕ) → getD l i (pos 0) ≡ pos 0) → linearBy f σ q l ≡ pos 0

@@ -6,13 +6,13 @@ use Prim.Native.Nat.{ℕ}
 use lib.IntN.{ℤ}
 use Rattle.units.specs.declared.Form.{Form}
 use Rattle.circuit.specs.Meaning.{circuitOf}
-use Rattle.built.specs.declared.Built.{Built}
-use Rattle.built.specs.declared.Built.the-variants.{Done as Finishes, Refused}
-use Rattle.built.specs.declared.Finished.{Finished}
-use Rattle.built.specs.Built.{Tables, built}
-use Rattle.built.specs.Proved.{stateIn, modelIn}
-use Rattle.evaluator.specs.Ran.{Done, done, refusal, ran}
-use Rattle.evaluator.specs.Ran as evaluator
+use Rattle.qubot_left.specs.declared.Built.{Built}
+use Rattle.qubot_left.specs.declared.Built.the-variants.{Done as Finishes, Refused}
+use Rattle.qubot_left.specs.declared.Finished.{Finished}
+use Rattle.qubot_left.specs.Built.{Tables, built}
+use Rattle.qubot_left.specs.Proved.{stateIn, modelIn}
+use Rattle.run_meaning.specs.Ran.{Done, done, refusal, ran}
+use Rattle.run_meaning.specs.Ran as evaluator
 
 -- what a run starts from: the names and the model that the tables and the answer of a build hold, of which `build-proved` speaks
 abbrev pub builtIn : List ℕ → Tables → Finished → evaluator.Built

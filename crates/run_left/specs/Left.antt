@@ -30,22 +30,22 @@ use Rattle.circuit.specs.Accepted.{Sound}
 use Rattle.numbering.specs.State.{State, mk, namesOf}
 use Rattle.numbering.specs.Numbered.{numbered, number, namedOf}
 use Rattle.numbering.specs.Finished.{numbering}
-use Rattle.pairs.specs.Store.{zip}
+use Rattle.store_pairs.specs.Store.{zip}
 use Rattle.store.specs.declared.Totals.{Totals}
 use Rattle.store.specs.Tables.{tables}
-use Rattle.fixes.specs.Order.{fixesOf}
-use Rattle.modelling.specs.Steps.{finishedOf}
-use Rattle.placing.specs.Blank.{pairsOf}
-use Rattle.built.specs.declared.Built.{Built}
-use Rattle.built.specs.declared.Built.the-variants.{Done}
-use Rattle.built.specs.declared.Finished.{Finished}
-use Rattle.built.specs.Built.{Tables, padded, filled, onto, within, answer, built}
-use Rattle.built.specs.Parts.{Passed, counted, gates-are, list-bits-are, gates-few, list-bits-few}
-use Rattle.built.specs.Left.{by-done, take-onto, onto-length, padded-long, names-counted, formed, small, fin, room, fin-is, sized, light}
-use Rattle.built.specs.Proved.{stateIn, state-read}
-use Rattle.evaluator.specs.Layout.{Stacked, Flags, Modeled, RunReady}
-use Rattle.evaluator.specs.Runs.{run-ready}
-use Rattle.evaluator.specs.Ran.{builtOf, ran}
+use Rattle.model_fixes.specs.Order.{fixesOf}
+use Rattle.model.specs.Steps.{finishedOf}
+use Rattle.model_place.specs.Blank.{pairsOf}
+use Rattle.qubot_left.specs.declared.Built.{Built}
+use Rattle.qubot_left.specs.declared.Built.the-variants.{Done}
+use Rattle.qubot_left.specs.declared.Finished.{Finished}
+use Rattle.qubot_left.specs.Built.{Tables, padded, filled, onto, within, answer, built}
+use Rattle.qubot_left.specs.Parts.{Passed, counted, gates-are, list-bits-are, gates-few, list-bits-few}
+use Rattle.qubot_left.specs.Left.{by-done, take-onto, onto-length, padded-long, names-counted, formed, small, fin, room, fin-is, sized, light}
+use Rattle.qubot_left.specs.Proved.{stateIn, state-read}
+use Rattle.run_meaning.specs.Layout.{Stacked, Flags, Modeled, RunReady}
+use Rattle.run_meaning.specs.Runs.{run-ready}
+use Rattle.run_meaning.specs.Ran.{builtOf, ran}
 use Rattle.energy.specs.Beyond.{beyond}
 use Rattle.run_left.specs.Cut.{ran-cut}
 use Rattle.run_left.specs.Evaluated.{builtIn}

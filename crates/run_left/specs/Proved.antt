@@ -26,17 +26,17 @@ use Rattle.circuit.specs.declared.Refusal.the-variants.{FewValues, OtherCount}
 use Rattle.circuit.specs.Meaning.{circuitOf}
 use Rattle.numbering.specs.State.{namesOf}
 use Rattle.numbering.specs.Numbered.{namedOf}
-use Rattle.built.specs.declared.Built.{Built}
-use Rattle.built.specs.declared.Built.the-variants.{Done as Finishes, Refused as Rejected}
-use Rattle.built.specs.declared.Finished.{Finished}
-use Rattle.built.specs.Built.{Tables, built}
-use Rattle.built.specs.Proved.{stateIn, modelIn, ProvedOf, build-proved}
-use Rattle.outcome.specs.declared.Outcome.the-variants.{Ran, Refused}
-use Rattle.evaluator.specs.Need.{Got, table, stopped}
-use Rattle.evaluator.specs.Ran.{Done, done, refusal, settingOf, finished, choose, unknowns, valued, within, beside, ran}
-use Rattle.evaluator.specs.Ran as evaluator
+use Rattle.qubot_left.specs.declared.Built.{Built}
+use Rattle.qubot_left.specs.declared.Built.the-variants.{Done as Finishes, Refused as Rejected}
+use Rattle.qubot_left.specs.declared.Finished.{Finished}
+use Rattle.qubot_left.specs.Built.{Tables, built}
+use Rattle.qubot_left.specs.Proved.{stateIn, modelIn, ProvedOf, build-proved}
+use Rattle.run_outcome.specs.declared.Outcome.the-variants.{Ran, Refused}
+use Rattle.run_meaning.specs.Need.{Got, table, stopped}
+use Rattle.run_meaning.specs.Ran.{Done, done, refusal, settingOf, finished, choose, unknowns, valued, within, beside, ran}
+use Rattle.run_meaning.specs.Ran as evaluator
 use Rattle.run_left.specs.Left.{left-by}
-use Rattle.evaluator.specs.Kept.{valued-length}
+use Rattle.run_meaning.specs.Kept.{valued-length}
 use Rattle.run_left.specs.Evaluated.{builtIn, evaluatedBy, evaluated}
 
 -- ---- the statement

@@ -25,16 +25,16 @@ use Rattle.circuit.specs.Samples.{bytesP}
 use Rattle.numbering.specs.State.{start}
 use Rattle.numbering.specs.Visit.{oneName, threeNames, take as takeNames, each as visitEach, process, step as visitStep, visit, visitOf}
 use Rattle.numbering.specs.Numbered.{visitRoots, joinNames, number, rowsFrom, rowsOf}
-use Rattle.fixes.specs.Order.{joinedQubit, fixesOf}
-use Rattle.modelling.specs.Steps.{placedOf, finishedOf}
-use Rattle.built.specs.Made.{make}
-use Rattle.built.specs.Built.{Tables, lent, built}
-use Rattle.outcome.specs.declared.Outcome.{Outcome}
-use Rattle.outcome.specs.declared.Outcome.the-variants.{Ran, Refused}
-use Rattle.rules.specs.Rules.{lawOf, depth}
-use Rattle.evaluator.specs.Need.{each, number as numberIn, settle, follow, step, need, needOf}
-use Rattle.evaluator.specs.Give.{giveBits, giveAll}
-use Rattle.evaluator.specs.Ran.{Done, marked, keysOf, higher, withHigher, trueNids, valued, within, ran}
+use Rattle.model_fixes.specs.Order.{joinedQubit, fixesOf}
+use Rattle.model.specs.Steps.{placedOf, finishedOf}
+use Rattle.qubot_left.specs.Made.{make}
+use Rattle.qubot_left.specs.Built.{Tables, lent, built}
+use Rattle.run_outcome.specs.declared.Outcome.{Outcome}
+use Rattle.run_outcome.specs.declared.Outcome.the-variants.{Ran, Refused}
+use Rattle.run_rules.specs.Rules.{lawOf, depth}
+use Rattle.run_meaning.specs.Need.{each, number as numberIn, settle, follow, step, need, needOf}
+use Rattle.run_meaning.specs.Give.{giveBits, giveAll}
+use Rattle.run_meaning.specs.Ran.{Done, marked, keysOf, higher, withHigher, trueNids, valued, within, ran}
 use Rattle.run_left.specs.Evaluated.{evaluated}
 
 -- ---- how a sample is written

@@ -1,19 +1,19 @@
 // A run on what a build left; or the build's refusal.
-use built::Built;
-use built::Finished;
+use qubot_left::Built;
+use qubot_left::Finished;
 use circuit::Counts;
-use lists::input_starts;
-use lists::list_starts;
-use outcome::Run;
-use running::refused;
-use running::run_on;
-use sizes::counts_of;
+use circuit_lists::input_starts;
+use circuit_lists::list_starts;
+use run_outcome::Run;
+use run_tables::refused;
+use run_tables::run_on;
+use circuit_sizes::counts_of;
 use store::Totals;
 ghost use mathlib.Core.Path.{_≡_};
 ghost use Rattle.circuit.specs.Check.{countsOf};
 ghost use Rattle.circuit.specs.Starts.{startsOf};
-ghost use Rattle.built.specs.Built.{lent};
-ghost use Rattle.evaluator.specs.Ran.{done, ran};
+ghost use Rattle.qubot_left.specs.Built.{lent};
+ghost use Rattle.run_meaning.specs.Ran.{done, ran};
 ghost use Rattle.run_left.specs.Left.{Left, LeftBy};
 ghost use Rattle.run_left.specs.Evaluated.{builtIn, ranBy};
 

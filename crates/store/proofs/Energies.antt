@@ -16,8 +16,8 @@ use Rattle.units.specs.declared.Form.the-variants.{Binary, Ising}
 use Rattle.energy.specs.Plain.{Setting}
 use Rattle.energy.specs.Model.{Entry, Inside, low, high, counted, linearBy, pairsBy, sizes}
 use Rattle.energy.specs.Mass.{abs-gated, abs-signed}
-use Rattle.pairs.specs.Store.{zip, none, load}
-use Rattle.pairs.proofs.Tables.{length-zip, zip-at}
+use Rattle.store_pairs.specs.Store.{zip, none, load}
+use Rattle.store_pairs.proofs.Tables.{length-zip, zip-at}
 use Rattle.store.specs.Tables.{oneAt}
 use Rattle.store.specs.Evaluating.{weightIn}
 

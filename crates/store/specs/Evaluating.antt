@@ -10,7 +10,7 @@ use Rattle.units.specs.declared.Form.{Form}
 use Rattle.units.specs.declared.Form.the-variants.{Binary, Ising}
 use Rattle.energy.specs.Plain.{Setting}
 use Rattle.energy.specs.Model.{Model, Inside, gated, signed, energyBy, energyIn, sizes, mass}
-use Rattle.pairs.specs.Store.{zip, load}
+use Rattle.store_pairs.specs.Store.{zip, load}
 use Rattle.store.specs.declared.Totals.{Totals}
 use Rattle.store.specs.Tables.{tables, Ready}
 

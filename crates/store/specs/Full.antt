@@ -7,8 +7,8 @@ use native.Mathlib.Omega.{arith}
 use lib.ListN.{length, drop, replicate, length-append, length-replicate}
 use lib.Seq.{take-append-seam, drop-append-seam}
 use Rattle.energy.specs.Model.{Entry, Model}
-use Rattle.pairs.specs.Store.{none, front}
-use Rattle.pairs.specs.Over.{over-zeros}
+use Rattle.store_pairs.specs.Store.{none, front}
+use Rattle.store_pairs.specs.Over.{over-zeros}
 use Rattle.store.specs.Tables.{Tables, modelOf, hold}
 
 -- pair tables of k entries

@@ -14,8 +14,8 @@ use Rattle.energy.specs.Mass.{mass-fix, mass-ising}
 use Rattle.energy.specs.Sized.{turned}
 use Rattle.energy.specs.Fixing.{give-pairs}
 use Rattle.energy.specs.Sized.{sized-fix, sized-ising}
-use Rattle.pairs.specs.Store.{none, over}
-use Rattle.pairs.specs.Over.{take-over, length-over, over-zeros, over-more}
+use Rattle.store_pairs.specs.Store.{none, over}
+use Rattle.store_pairs.specs.Over.{take-over, length-over, over-zeros, over-more}
 use Rattle.store.specs.Tables.{Tables, modelOf, hold, Ready}
 
 -- ---- what the tables hold

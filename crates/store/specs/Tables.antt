@@ -9,7 +9,7 @@ use lib.IntN.{ℤ, pos, _+ℤ_}
 use lib.ListN.{length, take, set, getD}
 use Rattle.energy.specs.Plain.{Setting}
 use Rattle.energy.specs.Model.{Entry, Model, Sized, isZero, mass}
-use Rattle.pairs.specs.Store.{zip, over}
+use Rattle.store_pairs.specs.Store.{zip, over}
 
 pub record Tables : Type 0 where
   pub offset : ℤ

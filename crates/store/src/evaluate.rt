@@ -10,7 +10,7 @@ ghost use lib.IntN.{natAbs};
 ghost use lib.ListN.{length, take};
 ghost use Rattle.units.specs.Halves.{energyOf};
 ghost use Rattle.energy.specs.Model.{low, high, linearBy, pairsBy, energyIn, sizes};
-ghost use Rattle.pairs.specs.Store.{zip};
+ghost use Rattle.store_pairs.specs.Store.{zip};
 ghost use Rattle.store.specs.Tables.{tables, modelOf, settingOf};
 ghost use Rattle.store.specs.Evaluating.{weightIn, jointIn, Pairs, Evaluating};
 

@@ -13,10 +13,10 @@ use Rattle.units.specs.declared.Form.{Form}
 use Rattle.circuit.specs.declared.Refusal.the-variants.{ShortText}
 use Rattle.circuit.specs.Meaning.{circuitOf}
 use Rattle.numbering.specs.State.{namesOf}
-use Rattle.built.specs.declared.Built.{Built}
-use Rattle.built.specs.declared.Built.the-variants.{Done, Refused as Rejected}
-use Rattle.built.specs.declared.Finished.{Finished}
-use Rattle.built.specs.Built.{Tables, lent, built}
+use Rattle.qubot_left.specs.declared.Built.{Built}
+use Rattle.qubot_left.specs.declared.Built.the-variants.{Done, Refused as Rejected}
+use Rattle.qubot_left.specs.declared.Finished.{Finished}
+use Rattle.qubot_left.specs.Built.{Tables, lent, built}
 use Rattle.text.specs.Text.{layout, sheetBy}
 use Rattle.text_left.specs.declared.Dumped.{Dumped}
 use Rattle.text_left.specs.declared.Dumped.the-variants.{Text, Refused}

@@ -19,13 +19,13 @@ use Rattle.numbering.specs.State.{State, namesOf}
 use Rattle.numbering.specs.Laws.{AllHave}
 use Rattle.numbering.specs.Numbered.{numbered, number}
 use Rattle.numbering.specs.Finished.{Finished as Named·finished}
-use Rattle.modelling.specs.Steps.{finishedOf}
-use Rattle.placing.specs.Blank.{pairsOf}
-use Rattle.built.specs.declared.Built.{Built}
-use Rattle.built.specs.declared.Built.the-variants.{Done}
-use Rattle.built.specs.declared.Finished.{Finished}
-use Rattle.built.specs.Built.{Tables, lent, padded, filled, onto, within, answer, built}
-use Rattle.built.specs.Left.{by-done, onto-length, padded-long, names-counted, formed, small, fin, sized, light, pairs-at-most}
+use Rattle.model.specs.Steps.{finishedOf}
+use Rattle.model_place.specs.Blank.{pairsOf}
+use Rattle.qubot_left.specs.declared.Built.{Built}
+use Rattle.qubot_left.specs.declared.Built.the-variants.{Done}
+use Rattle.qubot_left.specs.declared.Finished.{Finished}
+use Rattle.qubot_left.specs.Built.{Tables, lent, padded, filled, onto, within, answer, built}
+use Rattle.qubot_left.specs.Left.{by-done, onto-length, padded-long, names-counted, formed, small, fin, sized, light, pairs-at-most}
 use Rattle.text.specs.Ready.{BadsNamed, Printable}
 
 -- The file passed its checks; each gate has an entry, and each bad state a qubit; the tables have an entry for each of the names and of the pairs; and the numbers are small.

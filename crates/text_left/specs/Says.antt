@@ -9,11 +9,11 @@ use Rattle.units.specs.declared.Form.{Form}
 use Rattle.energy.specs.Model.{Entry}
 use Rattle.circuit.specs.Meaning.{circuitOf}
 use Rattle.numbering.specs.State.{namesOf}
-use Rattle.pairs.specs.Store.{zip}
-use Rattle.built.specs.declared.Built.the-variants.{Done}
-use Rattle.built.specs.declared.Finished.{Finished}
-use Rattle.built.specs.Built.{Tables, built}
-use Rattle.built.specs.Proved.{modelIn, build-proved}
+use Rattle.store_pairs.specs.Store.{zip}
+use Rattle.qubot_left.specs.declared.Built.the-variants.{Done}
+use Rattle.qubot_left.specs.declared.Finished.{Finished}
+use Rattle.qubot_left.specs.Built.{Tables, built}
+use Rattle.qubot_left.specs.Proved.{modelIn, build-proved}
 use Rattle.text.specs.Text.{layout, sheetBy, modelText}
 use Rattle.text_left.specs.Dumped.{textIn}
 

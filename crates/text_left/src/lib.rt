@@ -1,16 +1,16 @@
 // The text of what a build left, into a lent buffer; or the build's refusal, or 17.
-use built::Built;
-use built::Finished;
+use qubot_left::Built;
+use qubot_left::Finished;
 use circuit::Counts;
 use circuit::Refusal;
-use lists::input_starts;
-use printing::print_model;
-use sizes::counts_of;
+use circuit_lists::input_starts;
+use text_print::print_model;
+use circuit_sizes::counts_of;
 ghost use mathlib.Core.List.{[], zip};
 ghost use mathlib.Core.Path.{_≡_};
 ghost use lib.ListN.{length, take};
 ghost use Rattle.circuit.specs.Meaning.{circuitOf};
-ghost use Rattle.built.specs.Built.{lent};
+ghost use Rattle.qubot_left.specs.Built.{lent};
 ghost use Rattle.text.specs.Text.{layout, sheetBy};
 ghost use Rattle.text.specs.Ready.{Printable};
 ghost use Rattle.text_left.specs.Left.{Left, LeftBy};

@@ -1,9 +1,9 @@
 -- `build` meets its contract, on all bytes and all tables (`Parts`).
 -- Assumes nothing.
 use mathlib.Core.Path.{ap, _∙_}
-use Rattle.built.specs.declared.Built.{Built}
-use Rattle.built.specs.Built.{lent}
-use Rattle.built.specs.Parts.{enough, accepted-as, refused-as, built-as}
+use Rattle.qubot_left.specs.declared.Built.{Built}
+use Rattle.qubot_left.specs.Built.{lent}
+use Rattle.qubot_left.specs.Parts.{enough, accepted-as, refused-as, built-as}
 use borrow.Author.Needs.{needs}
 use Rattle.qubot.proofs.build.Statement.{statement}
 use Rattle.qubot.proofs.build.Tie as tie

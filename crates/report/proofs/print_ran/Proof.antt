@@ -2,7 +2,7 @@
 -- Assumes nothing.
 use native.Mathlib.Omega.{arith}
 use Rattle.text.specs.Paste.{then}
-use Rattle.lines.specs.Length.{hit-length}
+use Rattle.report_lines.specs.Length.{hit-length}
 use borrow.Author.Needs.{needs}
 use Rattle.report.proofs.print_ran.Statement.{statement}
 use Rattle.report.proofs.print_ran.Tie as tie

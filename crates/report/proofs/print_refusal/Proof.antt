@@ -9,8 +9,8 @@ use Rattle.text.specs.Bytes.{bytes}
 use Rattle.text.specs.Decimal.{decimal}
 use Rattle.text.specs.Text.{leadText, newline}
 use Rattle.text.specs.Paste.{Room, then, room-first, room-second, room-as, printed-as, within}
-use Rattle.lines.specs.Report.{refusalLine}
-use Rattle.lines.specs.Length.{refusal-length}
+use Rattle.report_lines.specs.Report.{refusalLine}
+use Rattle.report_lines.specs.Length.{refusal-length}
 use borrow.Author.Needs.{needs}
 use Rattle.report.proofs.print_refusal.Statement.{statement}
 use Rattle.report.proofs.print_refusal.Tie as tie

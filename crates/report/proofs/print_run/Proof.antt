@@ -5,9 +5,9 @@ use Prim.Native.Nat.{ℕ, min}
 use native.Mathlib.Omega.{arith}
 use lib.ListN.{take}
 use Rattle.text.specs.Paste.{printed-as}
-use Rattle.outcome.specs.declared.Outcome.{Outcome}
-use Rattle.outcome.specs.declared.Run.{Run}
-use Rattle.lines.specs.Report.{runLines, outcomeLines}
+use Rattle.run_outcome.specs.declared.Outcome.{Outcome}
+use Rattle.run_outcome.specs.declared.Run.{Run}
+use Rattle.report_lines.specs.Report.{runLines, outcomeLines}
 use borrow.Author.Needs.{needs}
 use Rattle.report.proofs.print_run.Statement.{statement}
 use Rattle.report.proofs.print_run.Tie as tie

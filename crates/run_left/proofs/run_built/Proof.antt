@@ -2,10 +2,10 @@
 -- Assumes nothing.
 use mathlib.Core.Path.{_≡_, sym, ap, _∙_}
 use borrow.Author.Needs.{needs}
-use Rattle.built.specs.declared.Built.{Built}
-use Rattle.built.specs.Built.{Tables, lent}
-use Rattle.outcome.specs.declared.Run.{Run}
-use Rattle.evaluator.specs.Ran.{done}
+use Rattle.qubot_left.specs.declared.Built.{Built}
+use Rattle.qubot_left.specs.Built.{Tables, lent}
+use Rattle.run_outcome.specs.declared.Run.{Run}
+use Rattle.run_meaning.specs.Ran.{done}
 use Rattle.run_left.specs.Evaluated.{ranBy}
 use Rattle.run_left.proofs.run_built.Statement.{statement}
 use Rattle.run_left.proofs.run_built.Tie as tie

@@ -1,7 +1,7 @@
 -- `run_left::run_left` meets its contract: the counts and the starts are those of the file.
 -- Assumes nothing.
 use borrow.Author.Needs.{needs}
-use Rattle.built.specs.Parts.{gates-are, list-bits-are}
+use Rattle.qubot_left.specs.Parts.{gates-are, list-bits-are}
 use Rattle.run_left.specs.Left.{passed}
 use Rattle.run_left.proofs.run_left.Statement.{statement}
 use Rattle.run_left.proofs.run_left.Tie as tie

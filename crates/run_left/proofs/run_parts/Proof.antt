@@ -8,8 +8,8 @@ use borrow.Author.Needs.{needs}
 use mir.Syntax.{w64}
 use mir.Facts.{toZ-ofZ}
 use Rattle.laws.specs.Abs.{fits-abs}
-use Rattle.built.specs.Built.{Tables, lent}
-use Rattle.built.specs.Left.{names-counted}
+use Rattle.qubot_left.specs.Built.{Tables, lent}
+use Rattle.qubot_left.specs.Left.{names-counted}
 use Rattle.run_left.specs.Left.{names-few, from-few, gates-part, names-part, ready, runs-as}
 use Rattle.run_left.proofs.run_parts.Statement.{statement}
 use Rattle.run_left.proofs.run_parts.Tie as tie

@@ -3,8 +3,8 @@
 use mathlib.Core.Path.{_≡_, sym, ap, _∙_}
 use mathlib.Core.List.{[]}
 use borrow.Author.Needs.{needs}
-use Rattle.built.specs.declared.Built.{Built}
-use Rattle.built.specs.Built.{Tables, lent}
+use Rattle.qubot_left.specs.declared.Built.{Built}
+use Rattle.qubot_left.specs.Built.{Tables, lent}
 use Rattle.text_left.specs.Dumped.{printedBy}
 use Rattle.text_left.proofs.print_built.Statement.{statement}
 use Rattle.text_left.proofs.print_built.Tie as tie

@@ -10,8 +10,8 @@ use mir.Syntax.{w64}
 use mir.Facts.{toZ-ofZ}
 use Rattle.laws.specs.Abs.{fits-abs}
 use Rattle.text.specs.Paste.{printed-as, printed-whole}
-use Rattle.built.specs.Built.{Tables, lent}
-use Rattle.built.specs.Left.{names-counted}
+use Rattle.qubot_left.specs.Built.{Tables, lent}
+use Rattle.qubot_left.specs.Left.{names-counted}
 use Rattle.text_left.specs.Dumped.{textIn, too-short, long-enough, text-as}
 use Rattle.text_left.specs.Left.{printable, names-few}
 use Rattle.text_left.proofs.print_left.Statement.{statement}

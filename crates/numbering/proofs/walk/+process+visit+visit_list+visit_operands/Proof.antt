@@ -30,12 +30,12 @@ use Rattle.numbering.proofs.walk.+process+visit+visit_list+visit_operan
 use Rattle.numbering.proofs.walk.visit_operands.Reads as visit-operands
 use Rattle.numbering.proofs.walk.visit_operands.Kinds as visit-operands-kinds
 use Rattle.numbering.proofs.walk.+process+visit+visit_list+visit_operands.Lts-visit_operands as visit-operands-lts
-use Rattle.records.proofs.field_at.Reads as field-at-reads
-use Rattle.naming.proofs.kinds.act_at.Reads as act-at-reads
-use Rattle.naming.proofs.kinds.arity_at.Reads as arity-at-reads
-use Rattle.naming.proofs.kinds.is_division.Reads as is-division-reads
-use Rattle.naming.proofs.names.finish_gate.Reads as finish-gate-reads
-use Rattle.naming.proofs.names.one_name.Reads as one-name-reads
+use Rattle.circuit_records.proofs.field_at.Reads as field-at-reads
+use Rattle.numbering_gate.proofs.kinds.act_at.Reads as act-at-reads
+use Rattle.numbering_gate.proofs.kinds.arity_at.Reads as arity-at-reads
+use Rattle.numbering_gate.proofs.kinds.is_division.Reads as is-division-reads
+use Rattle.numbering_gate.proofs.names.finish_gate.Reads as finish-gate-reads
+use Rattle.numbering_gate.proofs.names.one_name.Reads as one-name-reads
 use Rattle.numbering.proofs.walk.+process+visit+visit_list+visit_operands.{statement}
 use Rattle.numbering.proofs.walk.+process+visit+visit_list+visit_operands.Tie.{close}
 

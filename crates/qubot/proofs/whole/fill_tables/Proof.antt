@@ -4,8 +4,8 @@ use mathlib.Core.Path.{sym, ap, _∙_}
 use Prim.Native.Nat.{ℕ, _+_, _*_}
 use lib.Seq.{length-take-le, length-front}
 use Rattle.circuit.specs.declared.Counts.{Counts}
-use Rattle.built.specs.Built.{lent, inTables}
-use Rattle.built.specs.Parts.{name-parts, model-parts, fitted}
+use Rattle.qubot_left.specs.Built.{lent, inTables}
+use Rattle.qubot_left.specs.Parts.{name-parts, model-parts, fitted}
 use borrow.Author.Needs.{needs}
 use Rattle.qubot.proofs.whole.fill_tables.Statement.{statement}
 use Rattle.qubot.proofs.whole.fill_tables.Tie as tie

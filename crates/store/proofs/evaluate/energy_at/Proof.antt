@@ -13,7 +13,7 @@ use Rattle.laws.specs.Abs.{abs-add, fits-abs}
 use Rattle.units.specs.Halves.{energyOf}
 use Rattle.energy.specs.Model.{Inside, energyBy, energyIn, sizes}
 use Rattle.energy.specs.Mass.{linear-size, pairs-size}
-use Rattle.pairs.specs.Store.{zip, load}
+use Rattle.store_pairs.specs.Store.{zip, load}
 use Rattle.store.specs.Tables.{tables, modelOf, settingOf}
 use Rattle.store.specs.Evaluating.{weightIn, jointIn, energy-in}
 use Rattle.store.proofs.Energies.{weight-small}

@@ -11,7 +11,7 @@ use mir.Val.{SFits, toZ}
 use mir.Facts.{toZ-ofZ}
 use Rattle.laws.specs.Abs.{fits-abs}
 use Rattle.energy.specs.Model.{low, high}
-use Rattle.pairs.specs.Store.{zip}
+use Rattle.store_pairs.specs.Store.{zip}
 use Rattle.store.specs.Tables.{settingOf}
 use Rattle.store.specs.Evaluating.{weightIn, jointIn}
 use Rattle.store.proofs.Energies.{Joining, join-starts, low-below, high-below, weight-below, join-small, join-turn, join-done}

@@ -1,4 +1,0 @@
--- The value of a qubit is `values`' own; a run speaks of it by these names.
--- Assumes nothing: these are definitions.
-pub use Rattle.values.specs.Need.{Got, table, stopped, went, andThen, decide, isTrue, bit, put, bitOf, divided, Net, lawIn, fixedAt}
-unfoldable pub use Rattle.values.specs.Need.{each, number, settle, follow, step, need, needOf}

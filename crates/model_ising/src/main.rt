@@ -1,6 +1,0 @@
-// A circuit from standard input, and the text of its model in the Ising form.
-use units::Form;
-
-fn main() {
-    model_print::print_from_input(Form::Ising);
-}

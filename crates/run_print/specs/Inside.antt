@@ -1,9 +1,0 @@
--- The bytes that reading gave lie within the buffer.
--- Assumes nothing: this is a definition.
-use Prim.Native.Nat.{ℕ, _≤_}
-use Rattle.run_print.specs.declared.Got.{Got}
-use Rattle.run_print.specs.declared.Got.the-variants.{Bytes, Failed}
-
-abbrev pub Inside : Got → ℕ → Type 0
-Inside (Bytes n) size = n ≤ size
-Inside Failed size = Unit
