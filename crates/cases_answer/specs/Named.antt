@@ -90,7 +90,7 @@ ran-listed u vs m e hit k = by-room (ltb (length (replicate m 3)) (u .state .nex
     by-room true k = absurd (never k)
     by-room false k = by-count (eqb (length vs) (length (u .circuit .inputs))) k
 
--- Theorem: after a run that was made, the values in the answer are those of the names that the build gave. (`run-proved` of `runs` has that there was a build.)
+-- Theorem: after a run that was made, the values in the answer are those of the names that the build gave. (`run-proved` of `run_left` has that there was a build.)
 pub names-listed : (b : List ℕ) (form : Form) (u : Tables) (f : Finished) (vs : List ℤ) (e : Energy) (hit : Bool) → built b form fresh ≡ (u, Finishes f)
     → evaluated b form fresh vs (replicate 3065 3) .1 .run .outcome ≡ Ran e hit
     → named (evaluated b form fresh vs (replicate 3065 3) .1 .values) ≡ take (f .names) (evaluated b form fresh vs (replicate 3065 3) .1 .values)

@@ -1,4 +1,4 @@
-// The checks 1 to 7, in number order, each over the whole input: the crates `sizes` 2, 6 and 7, `form` 3, and `references` 4 and 5.
+// The checks 1 to 7, in number order, each over the whole input: the crates `circuit_sizes` 2, 6 and 7, `circuit_form` 3, and `circuit_references` 4 and 5.
 // What each function answers is a definition of the crate `circuit`: see its specs/Check.antt.
 use circuit::Checked;
 use circuit::Counts;

@@ -1,4 +1,4 @@
--- The steps from a numbered circuit to its finished model: penalties and joins placed, qubits fixed (the crate `fixes`), the form.
+-- The steps from a numbered circuit to its finished model: penalties and joins placed, qubits fixed (the crate `model_fixes`), the form.
 -- Assumes nothing: these are definitions.
 use Rattle.units.specs.declared.Form.{Form}
 use Rattle.energy.specs.Circuit.{Circuit}

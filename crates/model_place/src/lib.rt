@@ -1,5 +1,5 @@
 // The rows of all names are placed: their linear coefficients join the linear entries, and their pairs go to the log, which is settled once.
-// The crate `rows` reads a name's row off the circuit and the tables of names.
+// The crate `model_rows` reads a name's row off the circuit and the tables of names.
 use penalty::row;
 use store_place::place::place;
 use model_rows::Placed;

@@ -1,5 +1,5 @@
 // The qubits of a circuit's gates: `visit` gives a gate's qubit or processes it, `process` visits what the gate needs and names it.
-// `walk` is the recursion, which the crate `roots` starts; what one gate does with names is the crate `naming`.
+// `walk` is the recursion, which the crate `numbering_roots` starts; what one gate does with names is the crate `numbering_gate`.
 // What each function leaves in the tables is a definition of specs/, which follow 01 sentence by sentence.
 use units::Gate;
 use units::Qubit;

@@ -1,4 +1,4 @@
-// The lines of an answer, into a lent buffer: what the programs print. What is printed is a definition of the crate `lines`; a byte past the buffer's end is counted
+// The lines of an answer, into a lent buffer: what the programs print. What is printed is a definition of the crate `report_lines`; a byte past the buffer's end is counted
 // and not stored, and no answer has more than 1,674 bytes.
 use circuit::Refusal;
 use circuit::answers::number_of;

@@ -1,4 +1,4 @@
--- Some of 01's rules of running, computed: the answer and every byte of the value table. The starred runs are in `runs/specs/Samples.antt`. Assumes nothing.
+-- Some of 01's rules of running, computed: the answer and every byte of the value table. The starred runs are in `run_left/specs/Samples.antt`. Assumes nothing.
 use mathlib.Core.Path.{_≡_, refl}
 use mathlib.Core.Bool.{true}
 use mathlib.Core.List.{List, [], _∷_, map}

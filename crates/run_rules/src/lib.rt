@@ -1,4 +1,4 @@
-// The rule of a qubit, read off its origin and role and the circuit; it is not stored. Its value from those that it reads; which those are is the crate `operands`.
+// The rule of a qubit, read off its origin and role and the circuit; it is not stored. Its value from those that it reads; which those are is the crate `run_operands`.
 use circuit::GateKind;
 use units::Qubit;
 

@@ -1,4 +1,4 @@
-// Placing penalties into the coefficient store: each goes by value to its qubits, its pairs to the end of a log, which the crate `settling` settles once.
+// Placing penalties into the coefficient store: each goes by value to its qubits, its pairs to the end of a log, which the crate `store_settle` settles once.
 use units::Qubit;
 
 pub mod place;

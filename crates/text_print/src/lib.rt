@@ -1,4 +1,4 @@
-// Printing the model text from finished tables into a lent buffer: the crate `entries` has the lines, `section` the parts of the text.
+// Printing the model text from finished tables into a lent buffer: the crate `text_entries` has the lines, `section` the parts of the text.
 // Each function prints a text that a definition of the crate `text` gives, from a place on, and answers the place after it.
 use circuit::Counts;
 use text_entries::put_entry;

@@ -1,4 +1,4 @@
--- `check_bench::repeat` is safe and ends: it counts at most one for each round.
+-- `bench_check::repeat` is safe and ends: it counts at most one for each round.
 -- Assumes nothing.
 use Prim.Native.Nat.{_-_, _≤_}
 use native.Mathlib.Omega.{arith}

@@ -1,4 +1,4 @@
--- `answering::put_answer` meets its contract: by the length of the circuit and the job, on the circuit and the values that stand behind the head.
+-- `cases_answer::put_answer` meets its contract: by the length of the circuit and the job, on the circuit and the values that stand behind the head.
 -- Assumes nothing.
 use native.Mathlib.Omega.{arith}
 use lib.ListN.{length-take}

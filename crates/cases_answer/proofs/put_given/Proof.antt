@@ -1,4 +1,4 @@
--- `answering::put_given` meets its contract: the values that are given lie within the table.
+-- `cases_answer::put_given` meets its contract: the values that are given lie within the table.
 -- Assumes nothing.
 use native.Mathlib.Omega.{arith}
 use mathlib.Core.Path.{ap}

@@ -1,4 +1,4 @@
--- `answering::put_model` meets its contract: by what `dump_fresh` and `print_refusal` ensure.
+-- `cases_answer::put_model` meets its contract: by what `dump_fresh` and `print_refusal` ensure.
 -- Assumes nothing.
 use native.Mathlib.Omega.{arith}
 use Rattle.cases_answer.proofs.Model.{text-printed, refusal-printed}

@@ -1,4 +1,4 @@
--- `answering::put_ran` meets its contract: by what `run_fresh` and `put_run` ensure.
+-- `cases_answer::put_ran` meets its contract: by what `run_fresh` and `put_run` ensure.
 -- Assumes nothing.
 use mathlib.Core.Path.{ap, sym}
 use Rattle.text.specs.Paste.{printed-as}

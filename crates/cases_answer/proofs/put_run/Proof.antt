@@ -1,4 +1,4 @@
--- `answering::put_run` meets its contract: the lines, and after a run that was made the values.
+-- `cases_answer::put_run` meets its contract: the lines, and after a run that was made the values.
 -- Assumes nothing.
 use native.Mathlib.Omega.{arith}
 use Rattle.text.specs.Paste.{then, printed-as}

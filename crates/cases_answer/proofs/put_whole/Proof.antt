@@ -1,4 +1,4 @@
--- `answering::put_whole` meets its contract: the answer goes behind the line.
+-- `cases_answer::put_whole` meets its contract: the answer goes behind the line.
 -- Assumes nothing.
 use native.Mathlib.Omega.{arith}
 use Prim.Native.Nat.{_+_, _≤_, max}

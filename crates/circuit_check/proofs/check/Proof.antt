@@ -1,4 +1,4 @@
--- `checks::check` meets its contract, by what its calls ensure.
+-- `circuit_check::check` meets its contract, by what its calls ensure.
 -- Assumes nothing.
 use mathlib.Core.Path.{sym, ap, _∙_}
 use Rattle.circuit.specs.Check.{tooMany}

@@ -1,4 +1,4 @@
--- `checks::check_room` meets its contract, by its two tests.
+-- `circuit_check::check_room` meets its contract, by its two tests.
 -- Assumes nothing.
 use mathlib.Core.Path.{sym, _∙_}
 use Rattle.circuit_check.proofs.Checks.{no-bad, room-short, room-enough}

@@ -1,4 +1,4 @@
--- `form::after` meets its contract, by what its calls ensure.
+-- `circuit_form::after` meets its contract, by what its calls ensure.
 -- Assumes nothing.
 use Rattle.circuit.specs.Passing.{list-follows, input-follows, after-list, after-input, after-other}
 use borrow.Author.Needs.{needs}

@@ -1,4 +1,4 @@
--- `form::breaks_by` meets its contract, by what its calls ensure.
+-- `circuit_form::breaks_by` meets its contract, by what its calls ensure.
 -- Assumes nothing.
 use Rattle.circuit.specs.Passing.{breaksBy}
 use borrow.Author.Needs.{needs}

@@ -1,4 +1,4 @@
--- `form::first_broken` meets its contract. The loop's invariant: what is kept holds of the records before n, and the first broken record of the rest is the first of all.
+-- `circuit_form::first_broken` meets its contract. The loop's invariant: what is kept holds of the records before n, and the first broken record of the rest is the first of all.
 -- Assumes nothing.
 use Prim.Native.Nat.{_≤_, _-_}
 use mathlib.Core.Path.{_≡_, sym, _∙_}

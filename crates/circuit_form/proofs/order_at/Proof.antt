@@ -1,4 +1,4 @@
--- `form::order_at` meets its contract, by what its two calls ensure.
+-- `circuit_form::order_at` meets its contract, by what its two calls ensure.
 -- Assumes nothing.
 use mathlib.Core.Path.{ap, _∙_}
 use Rattle.circuit.specs.Form.{orderOf, orderAt}

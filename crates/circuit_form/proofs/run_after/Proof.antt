@@ -1,4 +1,4 @@
--- `form::run_after` meets its contract: the number that follows is the next one, or the last one with fewer than 64 bits.
+-- `circuit_form::run_after` meets its contract: the number that follows is the next one, or the last one with fewer than 64 bits.
 -- Assumes nothing.
 use native.Mathlib.Omega.{arith}
 use borrow.Author.Tests.{eq-eqb, ne-eqb}

@@ -1,4 +1,4 @@
--- `form::unused_set` meets its contract, by what its calls ensure.
+-- `circuit_form::unused_set` meets its contract, by what its calls ensure.
 -- Assumes nothing.
 use Rattle.circuit.specs.Form.{unusedSet}
 use borrow.Author.Needs.{needs}

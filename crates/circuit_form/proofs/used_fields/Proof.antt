@@ -1,4 +1,4 @@
--- `form::used_fields` meets its contract: its table is the definition's.
+-- `circuit_form::used_fields` meets its contract: its table is the definition's.
 -- Assumes nothing.
 use native.Mathlib.Omega.{arith}
 use mathlib.Core.Path.{sym}

@@ -1,4 +1,4 @@
--- `lists::input_starts` meets its contract: the input bits end with the file.
+-- `circuit_lists::input_starts` meets its contract: the input bits end with the file.
 -- Assumes nothing.
 use Rattle.circuit.specs.Starts.{ends-inputs}
 use borrow.Author.Needs.{needs}

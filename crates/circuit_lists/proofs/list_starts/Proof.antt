@@ -1,4 +1,4 @@
--- `lists::list_starts` meets its contract: the list bits end after the gates and themselves.
+-- `circuit_lists::list_starts` meets its contract: the list bits end after the gates and themselves.
 -- Assumes nothing.
 use Prim.Native.Nat.{_+_}
 use mathlib.Core.Path.{ap₂}

@@ -1,4 +1,4 @@
--- `lists::list_tops` meets its contract. The loop's invariant: with the bits that are left, the table has the largest gate of each list.
+-- `circuit_lists::list_tops` meets its contract. The loop's invariant: with the bits that are left, the table has the largest gate of each list.
 -- Assumes nothing.
 use Prim.Native.Nat.{_≤_, _-_}
 use native.Mathlib.Omega.{arith}

@@ -1,4 +1,4 @@
--- `lists::starts_of` meets its contract. The loop's invariant: the numbers that have begun have their entry, and the others have the end.
+-- `circuit_lists::starts_of` meets its contract. The loop's invariant: the numbers that have begun have their entry, and the others have the end.
 -- Assumes nothing.
 use Prim.Native.Nat.{_≤_, _-_}
 use native.Mathlib.Omega.{arith}

@@ -1,4 +1,4 @@
--- `lists::top_of` meets its contract.
+-- `circuit_lists::top_of` meets its contract.
 -- Assumes nothing.
 use borrow.Author.Tests.{lt-ltb, le-ltb}
 use borrow.Author.Needs.{needs}

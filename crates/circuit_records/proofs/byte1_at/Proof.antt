@@ -1,4 +1,4 @@
--- `records::byte1_at` meets its contract: it reads the byte that the definition names.
+-- `circuit_records::byte1_at` meets its contract: it reads the byte that the definition names.
 -- Assumes nothing.
 use Rattle.circuit.specs.File.{byte1}
 use borrow.Author.Needs.{needs}

@@ -1,4 +1,4 @@
--- `records::field_at` meets its contract, by what `half_at` ensures.
+-- `circuit_records::field_at` meets its contract, by what `half_at` ensures.
 -- Assumes nothing.
 use Rattle.circuit.specs.File.{field}
 use borrow.Author.Needs.{needs}

@@ -1,4 +1,4 @@
--- `records::half_at` meets its contract: a byte is below 256, so two of them make a number of 16 bits.
+-- `circuit_records::half_at` meets its contract: a byte is below 256, so two of them make a number of 16 bits.
 -- Assumes nothing.
 use Prim.Native.Nat.{_+_}
 use native.Mathlib.Omega.{arith}

@@ -1,4 +1,4 @@
--- `records::kind_at` meets its contract: each arm knows the kind, and the last one that it is none of the others.
+-- `circuit_records::kind_at` meets its contract: each arm knows the kind, and the last one that it is none of the others.
 -- Assumes nothing.
 use borrow.Author.Tests.{ne-eqb}
 use Rattle.circuit.specs.File.{kindAt, kindOf}

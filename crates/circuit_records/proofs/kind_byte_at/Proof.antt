@@ -1,4 +1,4 @@
--- `records::kind_byte_at` meets its contract: it reads the byte that the definition names.
+-- `circuit_records::kind_byte_at` meets its contract: it reads the byte that the definition names.
 -- Assumes nothing.
 use Rattle.circuit.specs.File.{kindByte}
 use borrow.Author.Needs.{needs}

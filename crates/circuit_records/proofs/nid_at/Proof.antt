@@ -1,4 +1,4 @@
--- `records::nid_at` meets its contract, by what `word_at` ensures.
+-- `circuit_records::nid_at` meets its contract, by what `word_at` ensures.
 -- Assumes nothing.
 use Rattle.circuit.specs.File.{nidAt}
 use borrow.Author.Needs.{needs}

@@ -1,4 +1,4 @@
--- `records::section_at` meets its contract: each arm knows the kind, and the last one that it is none of the others.
+-- `circuit_records::section_at` meets its contract: each arm knows the kind, and the last one that it is none of the others.
 -- Assumes nothing.
 use native.Mathlib.Omega.{arith}
 use borrow.Author.Tests.{le-leb, lt-leb, ne-eqb}

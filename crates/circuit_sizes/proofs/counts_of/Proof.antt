@@ -1,4 +1,4 @@
--- `sizes::counts_of` meets its contract, by what its calls ensure.
+-- `circuit_sizes::counts_of` meets its contract, by what its calls ensure.
 -- Assumes nothing.
 use Rattle.circuit.specs.Check.{countsOf}
 use borrow.Author.Needs.{needs}

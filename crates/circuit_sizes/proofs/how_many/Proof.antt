@@ -1,4 +1,4 @@
--- `sizes::how_many` meets its contract. The loop's invariant: the count is that of the records before n.
+-- `circuit_sizes::how_many` meets its contract. The loop's invariant: the count is that of the records before n.
 -- Assumes nothing.
 use Prim.Native.Nat.{_≤_, _-_, _+_}
 use mathlib.Core.Path.{_≡_, refl, sym, ap, _∙_}

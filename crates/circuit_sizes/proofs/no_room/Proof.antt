@@ -1,4 +1,4 @@
--- `sizes::no_room` meets its contract: within the limits of check 2 no number here wraps.
+-- `circuit_sizes::no_room` meets its contract: within the limits of check 2 no number here wraps.
 -- Assumes nothing.
 use native.Mathlib.Omega.{arith}
 use Rattle.circuit.specs.Limits.{few}

@@ -1,4 +1,4 @@
--- `finishing::finish_model` meets its contract.
+-- `model_finish::finish_model` meets its contract.
 -- Assumes nothing.
 use borrow.Author.Needs.{needs}
 use Rattle.model_finish.proofs.finish_model.Statement.{statement}

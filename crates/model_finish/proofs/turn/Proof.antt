@@ -1,4 +1,4 @@
--- `finishing::turn` meets its contract.
+-- `model_finish::turn` meets its contract.
 -- Assumes nothing.
 use mathlib.Core.Path.{sym, ap, _∙_}
 use native.Mathlib.Omega.{arith}

@@ -1,4 +1,4 @@
--- `placing::place_all` meets its contract: before each turn the tables hold the log of the names so far (`Blank`).
+-- `model_place::place_all` meets its contract: before each turn the tables hold the log of the names so far (`Blank`).
 -- Assumes nothing.
 use mathlib.Core.Path.{_≡_, refl, _∙_}
 use Prim.Native.Nat.{_-_}

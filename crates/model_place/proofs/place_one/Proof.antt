@@ -1,4 +1,4 @@
--- `placing::place_one` meets its contract.
+-- `model_place::place_one` meets its contract.
 -- Assumes nothing.
 use Rattle.model_place.proofs.OneRow.{row-placed, none-placed}
 use Rattle.store.specs.Tables.{tables}

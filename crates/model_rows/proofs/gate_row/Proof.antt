@@ -1,4 +1,4 @@
--- `rows::gate_row` meets its contract: what the gate's kind is ruled by.
+-- `model_rows::gate_row` meets its contract: what the gate's kind is ruled by.
 -- Assumes nothing.
 use mathlib.Core.Path.{sym, ap, _∙_, subst}
 use Rattle.model_rows.specs.declared.Placed.the-variants.{At}

@@ -1,4 +1,4 @@
--- `rows::gate_wires` meets its contract.
+-- `model_rows::gate_wires` meets its contract.
 -- Assumes nothing.
 use mathlib.Core.Path.{_≡_, ap, _∙_}
 use Prim.Native.Nat.{ℕ, _+_, _-_, _≤_}

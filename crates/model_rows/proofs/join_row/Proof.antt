@@ -1,4 +1,4 @@
--- `rows::join_row` meets its contract (`Reading`).
+-- `model_rows::join_row` meets its contract (`Reading`).
 -- Assumes nothing.
 use Rattle.model_rows.proofs.Reading.{first-join, later-join}
 use borrow.Author.Needs.{needs}

@@ -1,4 +1,4 @@
--- `rows::named_by` meets its contract.
+-- `model_rows::named_by` meets its contract.
 -- Assumes nothing.
 use mathlib.Core.Path.{ap, _∙_}
 use Prim.Native.Nat.{ℕ, _-_}

@@ -1,4 +1,4 @@
--- `rows::row_at` meets its contract, by the laws of the tables of a numbered circuit (`Rowed`).
+-- `model_rows::row_at` meets its contract, by the laws of the tables of a numbered circuit (`Rowed`).
 -- Assumes nothing.
 use mathlib.Core.Path.{ap, _∙_}
 use native.Mathlib.Omega.{arith}

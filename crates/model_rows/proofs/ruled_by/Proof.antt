@@ -1,4 +1,4 @@
--- `rows::ruled_by` meets its contract: each arm is the definition's line.
+-- `model_rows::ruled_by` meets its contract: each arm is the definition's line.
 -- Assumes nothing.
 use borrow.Author.Needs.{needs}
 use Rattle.model_rows.proofs.ruled_by.Statement.{statement}

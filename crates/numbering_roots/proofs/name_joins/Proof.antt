@@ -1,4 +1,4 @@
--- `roots::name_joins` meets its contract: the steps that are left, from the tables as they are, are all the steps from the tables as they were.
+-- `numbering_roots::name_joins` meets its contract: the steps that are left, from the tables as they are, are all the steps from the tables as they were.
 -- Assumes nothing.
 use Prim.Native.Nat.{_-_}
 use native.Mathlib.Omega.{arith}

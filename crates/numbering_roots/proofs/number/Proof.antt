@@ -1,4 +1,4 @@
--- `roots::number` meets its contract, by what `visit_roots` and `name_joins` ensure. Assumes nothing.
+-- `numbering_roots::number` meets its contract, by what `visit_roots` and `name_joins` ensure. Assumes nothing.
 use Rattle.numbering_roots.proofs.Rooting.{roots-asked, number-refused, joins-asked, number-all}
 use borrow.Author.Needs.{needs}
 use Rattle.numbering_roots.proofs.number.Statement.{statement}

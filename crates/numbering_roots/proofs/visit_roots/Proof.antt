@@ -1,4 +1,4 @@
--- `roots::visit_roots` meets its contract: the roots that are left, from the tables as they are, are all the roots from the tables as they were.
+-- `numbering_roots::visit_roots` meets its contract: the roots that are left, from the tables as they are, are all the roots from the tables as they were.
 -- Assumes nothing.
 use Prim.Native.Nat.{_-_}
 use native.Mathlib.Omega.{arith}

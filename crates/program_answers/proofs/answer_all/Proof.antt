@@ -1,4 +1,4 @@
--- `answers::answer_all` is safe and ends: the buffers keep their lengths. The measure is the cases that can still be counted.
+-- `program_answers::answer_all` is safe and ends: the buffers keep their lengths. The measure is the cases that can still be counted.
 -- Assumes nothing.
 use Prim.Native.Nat.{_-_}
 use mathlib.Core.Path.{_≡_}

@@ -1,4 +1,4 @@
--- `answers::main` is safe: the output is long enough. The lengths are cited, so that no list of so many bytes is computed.
+-- `program_answers::main` is safe: the output is long enough. The lengths are cited, so that no list of so many bytes is computed.
 -- Assumes nothing.
 use Prim.Native.Nat.{ℕ, _≤_}
 use native.Mathlib.Omega.{arith}

@@ -1,4 +1,4 @@
--- `model_print::print_model` is safe: a text that was printed lies within the buffer, as the contract of `dump_fresh` has it.
+-- `program_model::print_model` is safe: a text that was printed lies within the buffer, as the contract of `dump_fresh` has it.
 -- Assumes nothing.
 use Rattle.text_left.specs.Dumped.{inside-text}
 use borrow.Author.Needs.{needs}

@@ -1,4 +1,4 @@
--- `output::write_front` is safe: the part that is written lies within the text.
+-- `program_output::write_front` is safe: the part that is written lies within the text.
 -- Assumes nothing.
 use native.Mathlib.Omega.{arith}
 use lib.ListN.{length-take}

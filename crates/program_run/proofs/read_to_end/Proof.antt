@@ -1,4 +1,4 @@
--- `run_print::read_to_end` is safe and ends: each read that moves something leaves less room.
+-- `program_run::read_to_end` is safe and ends: each read that moves something leaves less room.
 -- Assumes nothing.
 use mathlib.Core.Path.{_≡_, _∙_, subst}
 use mathlib.Core.List.{List}

@@ -1,4 +1,4 @@
--- `run_print::read_values` is safe and ends: the arguments are finite.
+-- `program_run::read_values` is safe and ends: the arguments are finite.
 -- Assumes nothing.
 use mathlib.Core.Path.{_≡_}
 use Prim.Native.Nat.{_-_, _≤_}

@@ -1,4 +1,4 @@
--- `run_print::run_arguments` is safe: the values that are lent lie within the table.
+-- `program_run::run_arguments` is safe: the values that are lent lie within the table.
 -- Assumes nothing.
 use native.Mathlib.Omega.{arith}
 use lib.ListN.{length-take}

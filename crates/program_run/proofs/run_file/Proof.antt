@@ -1,4 +1,4 @@
--- `run_print::run_file` is safe: the part that is run lies within the buffer.
+-- `program_run::run_file` is safe: the part that is run lies within the buffer.
 -- Assumes nothing.
 use native.Mathlib.Omega.{arith}
 use lib.ListN.{length-take}

@@ -1,4 +1,4 @@
--- `lines::put_bad` meets its contract. A number of 64 bits has at most 20 digits, so there are places for the line.
+-- `report_lines::put_bad` meets its contract. A number of 64 bits has at most 20 digits, so there are places for the line.
 -- Assumes nothing.
 use native.Mathlib.Omega.{arith}
 use Rattle.text.specs.Paste.{Room, then, room-first, room-second, within}

@@ -1,4 +1,4 @@
--- `lines::put_bads` meets its contract. The loop: what is left to print are the nids from the k-th on, and each line so far had at most 25 bytes.
+-- `report_lines::put_bads` meets its contract. The loop: what is left to print are the nids from the k-th on, and each line so far had at most 25 bytes.
 -- Assumes nothing.
 use mathlib.Core.Path.{_≡_, ap}
 use mathlib.Core.List.{List, [], _++_}

@@ -1,4 +1,4 @@
--- `lines::put_energy` meets its contract. The line is short, so there are places for it. A signed number reaches a callee as what the machine reads back of it.
+-- `report_lines::put_energy` meets its contract. The line is short, so there are places for it. A signed number reaches a callee as what the machine reads back of it.
 -- Assumes nothing.
 use mathlib.Core.Path.{_≡_}
 use mathlib.Core.List.{[], _∷_, _++_}

@@ -1,4 +1,4 @@
--- `lines::put_form` meets its contract, by the form.
+-- `report_lines::put_form` meets its contract, by the form.
 -- Assumes nothing.
 use mathlib.Core.Path.{ap}
 use borrow.Author.Needs.{needs}

@@ -1,4 +1,4 @@
--- `lines::put_hit` meets its contract, by the verdict.
+-- `report_lines::put_hit` meets its contract, by the verdict.
 -- Assumes nothing.
 use mathlib.Core.Path.{ap}
 use Rattle.text.specs.Paste.{room-as, printed-as}

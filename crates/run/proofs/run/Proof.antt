@@ -1,4 +1,4 @@
--- `runs::run` meets its contract: the build, and then the run on what it left.
+-- `run::run` meets its contract: the build, and then the run on what it left.
 -- Assumes nothing.
 use mathlib.Core.Path.{_≡_}
 use borrow.Author.Needs.{needs}

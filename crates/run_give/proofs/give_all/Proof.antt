@@ -1,4 +1,4 @@
--- `giving::give_all` meets its contract.
+-- `run_give::give_all` meets its contract.
 -- Assumes nothing.
 use mir.Facts.{toZ-ofZ}
 use mir.Syntax.{w64}

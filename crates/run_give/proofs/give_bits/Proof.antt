@@ -1,4 +1,4 @@
--- `giving::give_bits` meets its contract.
+-- `run_give::give_bits` meets its contract.
 -- Assumes nothing.
 use Rattle.run_give.proofs.Given.{Giving, giving-start}
 use Rattle.run_give.proofs.Given.{give-on, give-stop, used-up, not-used-up}

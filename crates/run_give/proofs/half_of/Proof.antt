@@ -1,4 +1,4 @@
--- `giving::half_of` meets its contract.
+-- `run_give::half_of` meets its contract.
 -- Assumes nothing.
 use Rattle.laws.specs.Half.{half-fits}
 use mir.Facts.{toZ-ofZ}

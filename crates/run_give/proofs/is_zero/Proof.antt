@@ -1,4 +1,4 @@
--- `giving::is_zero` meets its contract.
+-- `run_give::is_zero` meets its contract.
 -- Assumes nothing.
 use Rattle.laws.specs.Machine.{eq-test}
 use mir.Facts.{sfits-lit}

@@ -1,4 +1,4 @@
--- `giving::low_bit` meets its contract.
+-- `run_give::low_bit` meets its contract.
 -- Assumes nothing.
 use Rattle.run_give.proofs.Given.{tested}
 use Rattle.laws.specs.Half.{half-fits}

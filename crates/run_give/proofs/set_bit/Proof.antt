@@ -1,4 +1,4 @@
--- `giving::set_bit` meets its contract.
+-- `run_give::set_bit` meets its contract.
 -- Assumes nothing.
 use native.Mathlib.Omega.{arith}
 use borrow.Author.Tests.{eq-eqb, ne-eqb}

@@ -1,4 +1,4 @@
--- `needing::fixed_byte` meets its contract.
+-- `run_need::fixed_byte` meets its contract.
 -- Assumes nothing.
 use borrow.Author.Tests.{eq-eqb, ne-eqb}
 use Rattle.run_need.proofs.fixed_byte.Statement.{statement}

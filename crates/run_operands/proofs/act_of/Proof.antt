@@ -1,4 +1,4 @@
--- `operands::act_of` meets its contract.
+-- `run_operands::act_of` meets its contract.
 -- Assumes nothing.
 use borrow.Author.Needs.{needs}
 use Rattle.run_operands.proofs.act_of.Statement.{statement}

@@ -1,4 +1,4 @@
--- `operands::few_at` meets its contract.
+-- `run_operands::few_at` meets its contract.
 -- Assumes nothing.
 use borrow.Author.Tests.{eq-eqb, ne-eqb}
 use Rattle.run_operands.proofs.few_at.Statement.{statement}

@@ -1,4 +1,4 @@
--- `operands::few_of` meets its contract.
+-- `run_operands::few_of` meets its contract.
 -- Assumes nothing.
 use borrow.Author.Needs.{needs}
 use Rattle.run_operands.proofs.few_of.Statement.{statement}

@@ -1,4 +1,4 @@
--- `operands::operand_at` meets its contract.
+-- `run_operands::operand_at` meets its contract.
 -- Assumes nothing.
 use Rattle.run_operands.proofs.Listed.{read-few, read-first, read-second}
 use Rattle.run_rules.specs.Code.{nameIn}

@@ -1,4 +1,4 @@
--- `operands::operands_of` meets its contract.
+-- `run_operands::operands_of` meets its contract.
 -- Assumes nothing.
 use borrow.Author.Needs.{needs}
 use Rattle.run_operands.proofs.operands_of.Statement.{statement}

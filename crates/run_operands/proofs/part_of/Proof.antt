@@ -1,4 +1,4 @@
--- `operands::part_of` meets its contract.
+-- `run_operands::part_of` meets its contract.
 -- Assumes nothing.
 use native.Mathlib.Omega.{arith}
 use Prim.Native.Nat.{_+_}

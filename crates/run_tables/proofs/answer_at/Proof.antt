@@ -1,4 +1,4 @@
--- `running::answer_at` meets its contract.
+-- `run_tables::answer_at` meets its contract.
 -- Assumes nothing.
 use borrow.Author.Needs.{needs}
 use Rattle.run_tables.proofs.answer_at.Statement.{statement}

@@ -1,4 +1,4 @@
--- `running::find_values` meets its contract.
+-- `run_tables::find_values` meets its contract.
 -- Assumes nothing.
 use Rattle.run_tables.proofs.Ending.{chain-stop, chain-on}
 use native.Mathlib.Omega.{arith}

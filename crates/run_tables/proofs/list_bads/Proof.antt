@@ -1,4 +1,4 @@
--- `running::list_bads` meets its contract.
+-- `run_tables::list_bads` meets its contract.
 -- Assumes nothing.
 use Rattle.run_tables.proofs.Trues.{Listed, listed-start, listed-on, listed-skip, listed-end}
 use Rattle.run_rules.specs.Code.{nameIn}

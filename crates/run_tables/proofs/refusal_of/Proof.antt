@@ -1,4 +1,4 @@
--- `running::refusal_of` meets its contract.
+-- `run_tables::refusal_of` meets its contract.
 -- Assumes nothing.
 use borrow.Author.Needs.{needs}
 use Rattle.run_tables.proofs.refusal_of.Statement.{statement}

@@ -1,4 +1,4 @@
--- `running::run_on` meets its contract.
+-- `run_tables::run_on` meets its contract.
 -- Assumes nothing.
 use Rattle.run_tables.proofs.Ending.{ran-inside}
 use Rattle.run_meaning.specs.Ran.{beside}

@@ -1,4 +1,4 @@
--- `running::run_within` meets its contract.
+-- `run_tables::run_within` meets its contract.
 -- Assumes nothing.
 use Rattle.run_tables.proofs.Ending.{other-count, halted, ended}
 use Rattle.run_meaning.specs.Ran.{refusal}

@@ -1,4 +1,4 @@
--- `ising::halve_all` meets its contract: what is halved and the halves of what is left are the whole (`Turns`).
+-- `store_ising::halve_all` meets its contract: what is halved and the halves of what is left are the whole (`Turns`).
 -- Assumes nothing.
 use mathlib.Core.Path.{refl}
 use Prim.Native.Nat.{_-_}

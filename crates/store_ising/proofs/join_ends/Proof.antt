@@ -1,4 +1,4 @@
--- `ising::join_ends` meets its contract: two entries in turn (`Turns`).
+-- `store_ising::join_ends` meets its contract: two entries in turn (`Turns`).
 -- Assumes nothing.
 use mathlib.Core.Path.{_≡_, ap, _∙_}
 use native.Mathlib.Omega.{arith}

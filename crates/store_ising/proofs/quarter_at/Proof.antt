@@ -1,4 +1,4 @@
--- `ising::quarter_at` meets its contract: a quarter fits.
+-- `store_ising::quarter_at` meets its contract: a quarter fits.
 -- Assumes nothing.
 use mathlib.Core.Path.{refl}
 use lib.Dec.{lit<}

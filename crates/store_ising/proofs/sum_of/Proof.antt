@@ -1,4 +1,4 @@
--- `ising::sum_of` meets its contract: what is summed and what is left is the whole (`Turns`).
+-- `store_ising::sum_of` meets its contract: what is summed and what is left is the whole (`Turns`).
 -- Assumes nothing.
 use Prim.Native.Nat.{_-_}
 use native.Mathlib.Omega.{arith}

@@ -1,4 +1,4 @@
--- `ising::to_ising` meets its contract: two sums, the halves, and the pass over the pairs (`Turns`).
+-- `store_ising::to_ising` meets its contract: two sums, the halves, and the pass over the pairs (`Turns`).
 -- Assumes nothing.
 use mathlib.Core.Path.{_≡_, sym, ap, ap₂, _∙_, subst}
 use Prim.Native.Nat.{ℕ, _^_, _≤_}

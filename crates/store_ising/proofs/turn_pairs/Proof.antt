@@ -1,4 +1,4 @@
--- `ising::turn_pairs` meets its contract. What holds at the loop's head, and that a turn keeps it, is in `Turns`.
+-- `store_ising::turn_pairs` meets its contract. What holds at the loop's head, and that a turn keeps it, is in `Turns`.
 -- Assumes nothing.
 use mathlib.Core.Path.{sym, ap, _∙_}
 use Prim.Native.Nat.{_-_}

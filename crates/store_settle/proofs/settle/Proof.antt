@@ -1,4 +1,4 @@
--- `settling::settle` meets its contract, by that of the pair tables.
+-- `store_settle::settle` meets its contract, by that of the pair tables.
 -- Assumes nothing.
 use mir.Syntax.{w64}
 use mir.Val.{SFits}

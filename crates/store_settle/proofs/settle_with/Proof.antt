@@ -1,4 +1,4 @@
--- `settling::settle_with` meets its contract: a part of the scratch, as long as the tables, is lent on.
+-- `store_settle::settle_with` meets its contract: a part of the scratch, as long as the tables, is lent on.
 -- Assumes nothing.
 use mathlib.Core.Path.{sym}
 use native.Mathlib.Omega.{arith}

@@ -1,4 +1,4 @@
--- `dump::dump_model` meets its contract: the build, and then what it left is printed.
+-- `text_dump::dump_model` meets its contract: the build, and then what it left is printed.
 -- Assumes nothing.
 use mathlib.Core.Path.{_≡_}
 use mathlib.Core.List.{List, []}

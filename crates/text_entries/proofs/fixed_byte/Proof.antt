@@ -1,4 +1,4 @@
--- `entries::fixed_byte` meets its contract.
+-- `text_entries::fixed_byte` meets its contract.
 -- Assumes nothing.
 use Rattle.text_entries.proofs.Words.{byte-false, byte-true, byte-free}
 use borrow.Author.Needs.{needs}

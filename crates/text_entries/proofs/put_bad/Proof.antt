@@ -1,4 +1,4 @@
--- `entries::put_bad` meets its contract: nid, qubit, and what comes after it.
+-- `text_entries::put_bad` meets its contract: nid, qubit, and what comes after it.
 -- Assumes nothing.
 use native.Mathlib.Omega.{arith}
 use Rattle.text.specs.Paste.{then, room-first, room-second}

@@ -1,4 +1,4 @@
--- `entries::put_end` meets its contract: the byte of the fixed value tells whether there is one.
+-- `text_entries::put_end` meets its contract: the byte of the fixed value tells whether there is one.
 -- Assumes nothing.
 use mathlib.Core.Path.{_≡_}
 use mathlib.Core.Bool.{Bool}

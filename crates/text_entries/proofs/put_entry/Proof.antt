@@ -1,4 +1,4 @@
--- `entries::put_entry` meets its contract: a number and a space, a count of halves, and the end of the line. A signed argument reaches a callee as what the machine
+-- `text_entries::put_entry` meets its contract: a number and a space, a count of halves, and the end of the line. A signed argument reaches a callee as what the machine
 -- reads back of it.
 -- Assumes nothing.
 use mathlib.Core.Path.{sym, ap}

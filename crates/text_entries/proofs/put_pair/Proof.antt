@@ -1,4 +1,4 @@
--- `entries::put_pair` meets its contract: the lower name and a space, and then an entry under the higher name.
+-- `text_entries::put_pair` meets its contract: the lower name and a space, and then an entry under the higher name.
 -- Assumes nothing.
 use mathlib.Core.Path.{sym, ap}
 use Prim.Native.Nat.{_%_}

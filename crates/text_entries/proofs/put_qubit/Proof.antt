@@ -1,4 +1,4 @@
--- `entries::put_qubit` meets its contract.
+-- `text_entries::put_qubit` meets its contract.
 -- Assumes nothing.
 use Rattle.text.specs.Paste.{room-as, printed-as}
 use Rattle.text_entries.proofs.Words.{qubit-absent, qubit-named}

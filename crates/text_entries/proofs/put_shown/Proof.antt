@@ -1,4 +1,4 @@
--- `entries::put_shown` meets its contract.
+-- `text_entries::put_shown` meets its contract.
 -- Assumes nothing.
 use mathlib.Core.Path.{_≡_}
 use mathlib.Core.List.{[], _∷_}

@@ -1,4 +1,4 @@
--- `entries::put_word` meets its contract.
+-- `text_entries::put_word` meets its contract.
 -- Assumes nothing.
 use mathlib.Core.List.{List}
 use Prim.Native.Nat.{ℕ}

@@ -1,4 +1,4 @@
--- `entries::value_byte` meets its contract.
+-- `text_entries::value_byte` meets its contract.
 -- Assumes nothing.
 use Rattle.text_entries.proofs.Words.{value-absent, value-named}
 use borrow.Author.Needs.{needs}

@@ -1,4 +1,4 @@
--- `printing::print_model` meets its contract: the parts in turn are the whole text, and there are numbers for its places.
+-- `text_print::print_model` meets its contract: the parts in turn are the whole text, and there are numbers for its places.
 -- Assumes nothing.
 use mathlib.Core.Path.{sym, ap}
 use mathlib.Core.List.{List, _∷_, _++_, map, zip}

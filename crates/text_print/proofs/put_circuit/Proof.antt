@@ -1,4 +1,4 @@
--- `printing::put_circuit` meets its contract.
+-- `text_print::put_circuit` meets its contract.
 -- Assumes nothing.
 use mathlib.Core.Path.{_≡_, ap, _∙_}
 use mathlib.Core.List.{List}

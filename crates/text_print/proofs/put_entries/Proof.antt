@@ -1,4 +1,4 @@
--- `printing::put_entries` meets its contract.
+-- `text_print::put_entries` meets its contract.
 -- Assumes nothing.
 use Rattle.text.specs.Paste.{then, room-first, room-second}
 use borrow.Author.Needs.{needs}

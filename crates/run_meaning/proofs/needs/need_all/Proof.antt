@@ -1,4 +1,4 @@
--- `evaluator::needs::need_all` meets its contract.
+-- `run_meaning::needs::need_all` meets its contract.
 -- Assumes nothing.
 use Rattle.run_meaning.proofs.Chain.{then-stop, then-on}
 use Rattle.run_values.specs.Asking.{net}

@@ -1,4 +1,4 @@
--- `evaluator::needs::need_bads` meets its contract.
+-- `run_meaning::needs::need_bads` meets its contract.
 -- Assumes nothing.
 use lib.ListN.{drop-of-length-le, length-map}
 use Rattle.run_values.proofs.Means.{bad-gate}

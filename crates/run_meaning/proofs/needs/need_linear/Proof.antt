@@ -1,4 +1,4 @@
--- `evaluator::needs::need_linear` meets its contract.
+-- `run_meaning::needs::need_linear` meets its contract.
 -- Assumes nothing.
 use Rattle.run_meaning.proofs.Left.{Left, left-start, left-as, left-asked, left-on, left-stop, left-end, marked-on, marked-skip, marked-done}
 use Rattle.run_meaning.specs.Ran.{marked}

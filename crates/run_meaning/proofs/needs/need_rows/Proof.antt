@@ -1,4 +1,4 @@
--- `evaluator::needs::need_rows` meets its contract.
+-- `run_meaning::needs::need_rows` meets its contract.
 -- Assumes nothing.
 use Rattle.run_meaning.proofs.Rows.{rest-start}
 use Rattle.run_meaning.proofs.Rows.{rest, turns}

@@ -1,4 +1,4 @@
--- `evaluator::needs::next_of` meets its contract.
+-- `run_meaning::needs::next_of` meets its contract.
 -- Assumes nothing.
 use Rattle.run_meaning.specs.Code.{nextOf}
 use native.Mathlib.Omega.{arith}

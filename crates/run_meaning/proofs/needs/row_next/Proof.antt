@@ -1,4 +1,4 @@
--- `evaluator::needs::row_next` meets its contract.
+-- `run_meaning::needs::row_next` meets its contract.
 -- Assumes nothing.
 use native.Mathlib.Omega.{arith}
 use borrow.Author.Tests.{eq-eqb, ne-eqb, lt-ltb, le-ltb}

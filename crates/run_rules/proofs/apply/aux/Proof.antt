@@ -1,4 +1,4 @@
--- `rules::apply::aux` meets its contract.
+-- `run_rules::apply::aux` meets its contract.
 -- Assumes nothing.
 use Rattle.run_rules.proofs.Bools.{aux-differ, aux-agree}
 use mathlib.Core.Path.{sym, _∙_}

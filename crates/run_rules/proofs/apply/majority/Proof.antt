@@ -1,4 +1,4 @@
--- `rules::apply::majority` meets its contract.
+-- `run_rules::apply::majority` meets its contract.
 -- Assumes nothing.
 use Rattle.run_rules.proofs.Bools.{majority-true, majority-false}
 use borrow.Author.Needs.{needs}

@@ -1,4 +1,4 @@
--- `rules::apply::parity` meets its contract.
+-- `run_rules::apply::parity` meets its contract.
 -- Assumes nothing.
 use Rattle.run_rules.proofs.Bools.{parity-true, parity-false}
 use borrow.Author.Needs.{needs}

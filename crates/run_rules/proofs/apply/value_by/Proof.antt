@@ -1,4 +1,4 @@
--- `rules::apply::value_by` meets its contract.
+-- `run_rules::apply::value_by` meets its contract.
 -- Assumes nothing.
 use borrow.Author.Needs.{needs}
 use Rattle.run_rules.proofs.apply.value_by.Statement.{statement}

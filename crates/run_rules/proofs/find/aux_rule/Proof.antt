@@ -1,4 +1,4 @@
--- `rules::find::aux_rule` meets its contract.
+-- `run_rules::find::aux_rule` meets its contract.
 -- Assumes nothing.
 use borrow.Author.Needs.{needs}
 use Rattle.run_rules.proofs.find.aux_rule.Statement.{statement}

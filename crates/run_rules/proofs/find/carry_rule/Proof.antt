@@ -1,4 +1,4 @@
--- `rules::find::carry_rule` meets its contract.
+-- `run_rules::find::carry_rule` meets its contract.
 -- Assumes nothing.
 use borrow.Author.Needs.{needs}
 use Rattle.run_rules.proofs.find.carry_rule.Statement.{statement}

@@ -1,4 +1,4 @@
--- `rules::find::join_rule` meets its contract.
+-- `run_rules::find::join_rule` meets its contract.
 -- Assumes nothing.
 use borrow.Author.Tests.{eq-eqb, ne-eqb}
 use borrow.Author.Needs.{needs}

@@ -1,4 +1,4 @@
--- `rules::find::qubit_of` meets its contract.
+-- `run_rules::find::qubit_of` meets its contract.
 -- Assumes nothing.
 use lib.ListN.{List·getD-eq-default}
 use denote.Ref.{now}

@@ -1,4 +1,4 @@
--- `rules::find::read_gate` meets its contract.
+-- `run_rules::find::read_gate` meets its contract.
 -- Assumes nothing.
 use borrow.Author.Needs.{needs}
 use Rattle.run_rules.proofs.find.read_gate.Statement.{statement}

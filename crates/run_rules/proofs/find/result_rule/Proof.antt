@@ -1,4 +1,4 @@
--- `rules::find::result_rule` meets its contract.
+-- `run_rules::find::result_rule` meets its contract.
 -- Assumes nothing.
 use borrow.Author.Needs.{needs}
 use Rattle.run_rules.proofs.find.result_rule.Statement.{statement}

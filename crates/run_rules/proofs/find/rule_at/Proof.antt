@@ -1,4 +1,4 @@
--- `rules::find::rule_at` meets its contract.
+-- `run_rules::find::rule_at` meets its contract.
 -- Assumes nothing.
 use Rattle.run_rules.specs.Code.{ruleAt}
 use native.Mathlib.Omega.{arith}

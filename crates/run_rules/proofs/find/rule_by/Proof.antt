@@ -1,4 +1,4 @@
--- `rules::find::rule_by` meets its contract.
+-- `run_rules::find::rule_by` meets its contract.
 -- Assumes nothing.
 use mathlib.Core.Path.{_∙_}
 use borrow.Author.Tests.{eq-eqb, ne-eqb}

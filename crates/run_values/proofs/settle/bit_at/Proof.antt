@@ -1,4 +1,4 @@
--- `values::settle::bit_at` meets its contract.
+-- `run_values::settle::bit_at` meets its contract.
 -- Assumes nothing.
 use Rattle.run_values.proofs.Numbers.{no-bit}
 use borrow.Author.Needs.{needs}

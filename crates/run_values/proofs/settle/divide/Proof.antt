@@ -1,4 +1,4 @@
--- `values::settle::divide` meets its contract.
+-- `run_values::settle::divide` meets its contract.
 -- Assumes nothing.
 use borrow.Author.Tests.{eq-eqb, ne-eqb}
 use borrow.Author.Needs.{needs}

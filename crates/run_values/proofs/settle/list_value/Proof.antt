@@ -1,4 +1,4 @@
--- `values::settle::list_value` meets its contract.
+-- `run_values::settle::list_value` meets its contract.
 -- Assumes nothing.
 use Rattle.run_values.specs.Need.{bit, isTrue}
 use Rattle.circuit.specs.File.{field}

@@ -1,4 +1,4 @@
--- `values::settle::rest_of` meets its contract.
+-- `run_values::settle::rest_of` meets its contract.
 -- Assumes nothing.
 use borrow.Author.Needs.{needs}
 use Rattle.run_values.proofs.settle.rest_of.Statement.{statement}

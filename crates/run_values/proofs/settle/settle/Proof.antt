@@ -1,4 +1,4 @@
--- `values::settle::settle` meets its contract.
+-- `run_values::settle::settle` meets its contract.
 -- Assumes nothing.
 use borrow.Author.Needs.{needs}
 use Rattle.run_values.proofs.settle.settle.Statement.{statement}

@@ -1,4 +1,4 @@
--- `values::settle::truth` meets its contract.
+-- `run_values::settle::truth` meets its contract.
 -- Assumes nothing.
 use denote.Ref.{now}
 use lib.ListN.{List·getD-eq-default}

@@ -1,4 +1,4 @@
--- `values::settle::value_in` meets its contract.
+-- `run_values::settle::value_in` meets its contract.
 -- Assumes nothing.
 use Rattle.run_values.specs.Code.{valueIn}
 use borrow.Author.Needs.{needs}
