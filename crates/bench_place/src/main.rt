@@ -1,11 +1,11 @@
 // Times placing and settling at 10,190 pairs: 1,019 full adders at qubits in no order, fifty times. It writes how many pairs the model has.
-use tables::zero_i64;
 use libc::STDOUT_FILENO;
 use penalty::Kind;
+use store::Totals;
 use store_place::Wires;
 use store_place::place::place;
 use store_settle::settle;
-use store::Totals;
+use tables::zero_i64;
 use units::Qubit;
 ghost use mathlib.Core.List.{[]};
 ghost use mathlib.Core.Path.{_≡_};

@@ -1,11 +1,11 @@
 // From blank tables to the finished model: rows placed and settled, qubits fixed, the form turned, the variables counted.
 use crate::Modelled;
-use model_fix_all::fix_all;
 use model_finish::finish_model;
+use model_fix_all::fix_all;
 use model_fixes::Fixed;
 use model_place::place_all;
-use store_settle::settle_all;
 use store::Totals;
+use store_settle::settle_all;
 use units::Form;
 use units::Qubit;
 ghost use mathlib.Core.Path.{_≡_};

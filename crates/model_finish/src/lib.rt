@@ -1,7 +1,7 @@
 // The last steps of a build: the form that is asked for, and the variable count.
-use store_ising::to_ising;
 use store::Totals;
 use store::count::count_variables;
+use store_ising::to_ising;
 use units::Form;
 ghost use mathlib.Core.List.{List};
 ghost use mathlib.Core.Path.{_≡_};

@@ -1,10 +1,10 @@
 // All fixes of a build: each value is entered, up to the first clash, and one pass over the pairs does the rest.
 use model_fixes::Fixed;
 use model_fixes::fix_at;
+use store::Totals;
 use store_fix::fix::contradicts;
 use store_sift::enter::enter_value;
 use store_sift::sift::sift_all;
-use store::Totals;
 use units::Qubit;
 ghost use mathlib.Core.List.{[]};
 ghost use Prim.Native.Nat.{_+_, _<_};

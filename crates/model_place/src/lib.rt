@@ -1,10 +1,10 @@
 // The rows of all names are placed: their linear coefficients join the linear entries, and their pairs go to the log, which is settled once.
 // The crate `model_rows` reads a name's row off the circuit and the tables of names.
-use penalty::row;
-use store_place::place::place;
 use model_rows::Placed;
 use model_rows::row_at;
+use penalty::row;
 use store::Totals;
+use store_place::place::place;
 use units::Qubit;
 ghost use mathlib.Core.List.{List};
 ghost use mathlib.Core.Path.{_≡_};

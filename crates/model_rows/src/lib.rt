@@ -1,9 +1,9 @@
 // The row of a name: its kind, and the qubits at its slots. What differs by kind lies here.
 use circuit::GateKind;
-use penalty::Kind;
-use store_place::Wires;
 use circuit_records::field_at;
 use circuit_records::kind_at;
+use penalty::Kind;
+use store_place::Wires;
 use units::Qubit;
 ghost use mathlib.Core.List.{[], _∷_};
 ghost use mathlib.Core.Path.{_≡_};

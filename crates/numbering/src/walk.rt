@@ -1,11 +1,11 @@
 // The recursion: `visit` gives a gate's qubit or processes it, and `process` visits what the gate needs.
 use crate::Given;
+use circuit_records::field_at;
 use numbering_gate::kinds::act_at;
 use numbering_gate::kinds::arity_at;
 use numbering_gate::kinds::is_division;
 use numbering_gate::names::finish_gate;
 use numbering_gate::names::one_name;
-use circuit_records::field_at;
 use units::Gate;
 use units::Qubit;
 ghost use mathlib.Core.Path.{_≡_};

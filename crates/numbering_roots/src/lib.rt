@@ -1,7 +1,7 @@
 // The whole numbering: bad states in order, then constraints, and then the joins' names.
+use circuit_records::field_at;
 use numbering::Ended;
 use numbering::walk::visit;
-use circuit_records::field_at;
 use units::Gate;
 use units::Qubit;
 ghost use mathlib.Core.Path.{_≡_};

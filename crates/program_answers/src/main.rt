@@ -4,10 +4,10 @@
 // than any that passes check 2 is read past and answered `refused 2 0`. A stream that ends inside a case, or a form or a job over 1, ends with the line `malformed`.
 mod reading;
 
-use cases_answer::put_whole;
 use cases::Asked;
 use cases::Head;
 use cases::heads::head_of;
+use cases_answer::put_whole;
 use libc::STDIN_FILENO;
 use program_output::write_front;
 use reading::read_case;

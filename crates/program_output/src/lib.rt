@@ -1,9 +1,9 @@
 // What the programs write to standard output. Where it cannot be written, a line on standard error says why.
 use circuit::Refusal;
 use libc::STDOUT_FILENO;
-use run_outcome::Run;
 use report::print_refusal;
 use report::print_run;
+use run_outcome::Run;
 ghost use Prim.Native.Nat.{_≤_};
 ghost use lib.ListN.{length};
 

@@ -1,9 +1,9 @@
 // The build: from the bytes of a circuit to the finished model.
+use circuit::Checked;
+use circuit_check::check;
+use least::least_of;
 use qubot_left::Built;
 use qubot_left::answer::answer_of;
-use circuit_check::check;
-use circuit::Checked;
-use least::least_of;
 use units::Form;
 use units::lesser;
 use whole::fill_tables;

@@ -1,11 +1,11 @@
 // The names and the finished model of a circuit that passed the checks, in tables of exactly the lengths of 7; or refusal 8 or 9, with all of them zeroed.
 use circuit::Counts;
-use tables::clear_model;
-use tables::clear_names;
 use model_finish::Counted;
 use parts::fill_model;
 use parts::is_model;
 use parts::number_names;
+use tables::clear_model;
+use tables::clear_names;
 use units::Form;
 use units::Gate;
 use units::Qubit;

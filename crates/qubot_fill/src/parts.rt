@@ -1,13 +1,13 @@
 // The steps on tables of exactly the lengths of 7. Where a step refuses, the tables are still to be zeroed.
 use crate::Filled;
 use circuit::Counts;
-use tables::clear_model;
-use tables::clear_names;
 use circuit_lists::list_starts;
 use model::Modelled;
 use model::model::make_model;
 use numbering::Ended;
 use numbering_roots::number;
+use tables::clear_model;
+use tables::clear_names;
 use units::Form;
 ghost use mathlib.Core.Path.{_≡_};
 ghost use Rattle.circuit.specs.Meaning.{circuitOf};

@@ -1,7 +1,7 @@
 // A run, from the bytes of a circuit: `run` builds, and then gives the inputs their values on what the build left.
-use run_outcome::Run;
 use qubot::build;
 use run_left::run_built;
+use run_outcome::Run;
 use units::Form;
 ghost use mathlib.Core.Path.{_≡_};
 ghost use Rattle.qubot_left.specs.Built.{lent};

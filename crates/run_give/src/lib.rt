@@ -1,11 +1,11 @@
 // Giving the inputs: each bit of a value to its qubit; refusals 12 and 13.
-use run_operands::part_of;
 use circuit_records::field_at;
-use units::Gate;
+use run_operands::part_of;
 use run_values::Stop;
 use run_values::Went;
 use run_values::settle::byte_of;
 use run_values::stops;
+use units::Gate;
 ghost use mathlib.Core.Path.{_≡_};
 ghost use Prim.Native.Nat.{_+_, _-_, _<_};
 ghost use lib.ListN.{length};

@@ -1,13 +1,13 @@
 // A run on what a build left; or the build's refusal.
-use qubot_left::Built;
-use qubot_left::Finished;
 use circuit::Counts;
 use circuit_lists::input_starts;
 use circuit_lists::list_starts;
+use circuit_sizes::counts_of;
+use qubot_left::Built;
+use qubot_left::Finished;
 use run_outcome::Run;
 use run_tables::refused;
 use run_tables::run_on;
-use circuit_sizes::counts_of;
 use store::Totals;
 ghost use mathlib.Core.Path.{_≡_};
 ghost use Rattle.circuit.specs.Check.{countsOf};

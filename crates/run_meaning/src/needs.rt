@@ -1,10 +1,10 @@
 // What a run needs, in order: linear entries by name; rows by name, each with its higher neighbours by name; bad states.
-use run_need::need;
 use circuit_records::field_at;
+use run_need::need;
 use run_rules::find::qubit_of;
-use units::Qubit;
 use run_values::Went;
 use run_values::stops;
+use units::Qubit;
 ghost use mathlib.Core.Path.{_≡_};
 ghost use mathlib.Core.List.{_++_};
 ghost use Prim.Native.Nat.{_≤_, _<_};

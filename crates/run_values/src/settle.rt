@@ -1,8 +1,8 @@
 // The value of a rule once its operands' values are found.
 use crate::Stop;
 use crate::Went;
-use run_operands::act_of;
 use circuit_records::field_at;
+use run_operands::act_of;
 use run_rules::Act;
 use run_rules::Operands;
 use run_rules::Rule;

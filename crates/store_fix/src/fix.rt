@@ -1,8 +1,8 @@
 // Fixing a qubit: its pairs are deleted, and times its value they join the other qubits' linear entries; its own linear entry, times its value, joins the offset.
-use store_pairs::entry::copy_within;
-use store_pairs::log::clear;
 use store::Totals;
 use store::linear::add_linear;
+use store_pairs::entry::copy_within;
+use store_pairs::log::clear;
 use units::Qubit;
 ghost use mathlib.Core.Bool.{cond};
 ghost use mathlib.Core.Path.{_≡_};

@@ -1,10 +1,10 @@
 // Placing a penalty at its qubits: its linear coefficients join the linear entries, and its pairs go to the end of the log.
 use crate::Wires;
-use store_pairs::log::append;
 use penalty::Penalty;
 use store::Totals;
 use store::linear::add_linear;
 use store::linear::join_linear;
+use store_pairs::log::append;
 ghost use mathlib.Core.List.{List};
 ghost use mathlib.Core.Path.{_≡_};
 ghost use Prim.Native.Nat.{ℕ, _+_, _≤_};

@@ -1,7 +1,7 @@
 // Entering a value: the qubit's own linear entry, times the value, joins the offset; the entry and the row go. Pairs stay.
+use store::Totals;
 use store_fix::fix::clear_linear;
 use store_fix::fix::mark_of;
-use store::Totals;
 use units::Qubit;
 ghost use mathlib.Core.List.{List};
 ghost use mathlib.Core.Path.{_≡_};

@@ -1,8 +1,8 @@
 // The one pass over the pairs. A pair with no fixed end stays; times the value of one end it joins the linear entry of the other; times both values it joins the offset.
-use store_pairs::entry::copy_within;
-use store_pairs::log::clear;
 use store::Totals;
 use store::linear::add_linear;
+use store_pairs::entry::copy_within;
+use store_pairs::log::clear;
 ghost use mathlib.Core.List.{List};
 ghost use mathlib.Core.Path.{_≡_};
 ghost use Prim.Native.Nat.{ℕ, _+_, _<_, _≤_};

@@ -6,8 +6,8 @@ mod text;
 
 use build::Group;
 use build::fill;
-use circuit_check::check;
 use circuit::Checked;
+use circuit_check::check;
 use libc::STDIN_FILENO;
 use libc::STDOUT_FILENO;
 use program_output::write_refusal;

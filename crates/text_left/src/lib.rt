@@ -1,11 +1,11 @@
 // The text of what a build left, into a lent buffer; or the build's refusal, or 17.
-use qubot_left::Built;
-use qubot_left::Finished;
 use circuit::Counts;
 use circuit::Refusal;
 use circuit_lists::input_starts;
-use text_print::print_model;
 use circuit_sizes::counts_of;
+use qubot_left::Built;
+use qubot_left::Finished;
+use text_print::print_model;
 ghost use mathlib.Core.List.{[], zip};
 ghost use mathlib.Core.Path.{_≡_};
 ghost use lib.ListN.{length, take};

@@ -1,12 +1,12 @@
 // Printing the model text from finished tables into a lent buffer: the crate `text_entries` has the lines, `section` the parts of the text.
 // Each function prints a text that a definition of the crate `text` gives, from a place on, and answers the place after it.
 use circuit::Counts;
-use text_entries::put_entry;
 use section::put_bads;
 use section::put_inputs;
 use section::put_linear;
 use section::put_pairs;
 use text::write::put;
+use text_entries::put_entry;
 ghost use mathlib.Core.List.{map, zip};
 ghost use mathlib.Core.Path.{_≡_};
 ghost use Prim.Native.Nat.{_≤_};

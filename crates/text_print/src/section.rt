@@ -1,15 +1,15 @@
 // The parts of the text, a loop each.
 use circuit::Counts;
-use text_entries::put_bad;
-use text_entries::put_entry;
-use text_entries::put_pair;
-use text_entries::put_word;
 use circuit_lists::parts::bad_gate;
 use circuit_lists::parts::bad_nid;
 use circuit_lists::parts::input_gate;
 use circuit_lists::parts::input_nid;
 use text::write::put;
 use text::write::put_lead;
+use text_entries::put_bad;
+use text_entries::put_entry;
+use text_entries::put_pair;
+use text_entries::put_word;
 ghost use mathlib.Core.List.{map, zip};
 ghost use mathlib.Core.Path.{_≡_};
 ghost use Prim.Native.Nat.{_≤_, _<_};
