@@ -1,5 +1,6 @@
 // The form of a stream of cases: what the head of a case asks for, the values behind its circuit, and the lines of an answer that no other program prints. What each function
 // answers is a definition of specs/, for every byte string and every buffer.
+#![tactic(auto)]
 pub mod heads;
 pub mod lines;
 pub mod numbers;
@@ -11,14 +12,14 @@ use units::Form;
 pub const LIMIT: usize = 102656;
 
 // What a case asks for.
-#[derive(Drop)]
+#[derive(Clone, Copy)]
 pub enum Job {
     Model,
     Run,
 }
 
 // What follows a head: so many bytes of circuit, and so many values.
-#[derive(Drop)]
+#[derive(Clone, Copy)]
 pub struct Asked {
     pub form: Form,
     pub job: Job,
@@ -26,7 +27,7 @@ pub struct Asked {
     pub length: u32,
 }
 
-#[derive(Drop)]
+#[derive(Clone, Copy)]
 pub enum Head {
     Case(Asked),
     Malformed,

@@ -6,7 +6,7 @@ pub mod answers;
 use units::{Gate, Qubit};
 
 // The gates, by 01's names.
-#[derive(Drop)]
+#[derive(Clone, Copy)]
 pub enum GateKind {
     ConstFalse,
     ConstTrue,
@@ -25,7 +25,7 @@ pub enum GateKind {
 }
 
 // The sections of the file, in their order.
-#[derive(Drop)]
+#[derive(Clone, Copy)]
 pub enum Section {
     Gates,
     ListBits,
@@ -36,21 +36,21 @@ pub enum Section {
 }
 
 // Where something is found first, if anywhere: the number of a record.
-#[derive(Drop)]
+#[derive(Clone, Copy)]
 pub enum Found {
     At(usize),
     Nowhere,
 }
 
 // Of the numbers of lists, or of inputs, in the records passed: how many have begun, and how many bits the last one has.
-#[derive(Drop)]
+#[derive(Clone, Copy)]
 pub struct Run {
     pub begun: usize,
     pub bits: usize,
 }
 
 // What the form of the next record depends on: the last record's place in the order of sections, the lists and the inputs so far, and the last input's nid.
-#[derive(Drop)]
+#[derive(Clone, Copy)]
 pub struct Passed {
     pub order: u8,
     pub lists: Run,
@@ -59,15 +59,15 @@ pub struct Passed {
 }
 
 // The place of a record in the file, from 0.
-#[derive(Drop)]
+#[derive(Clone, Copy)]
 pub struct Record(pub usize);
 
 // An input's number.
-#[derive(Drop)]
+#[derive(Clone, Copy)]
 pub struct Input(pub u16);
 
 // How many records of each section a file has, and how many lists and inputs.
-#[derive(Drop)]
+#[derive(Clone, Copy)]
 pub struct Counts {
     pub gates: usize,
     pub list_bits: usize,
@@ -79,7 +79,7 @@ pub struct Counts {
 }
 
 // The ways to say no, by 01's numbers, each with its place.
-#[derive(Drop)]
+#[derive(Clone, Copy)]
 pub enum Refusal {
     // 1: length is not a multiple of 16
     Length,
@@ -116,7 +116,7 @@ pub enum Refusal {
 }
 
 // The answer of the checks.
-#[derive(Drop)]
+#[derive(Clone, Copy)]
 pub enum Checked {
     Accepted(Counts),
     Refused(Refusal),

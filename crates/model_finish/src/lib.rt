@@ -1,4 +1,5 @@
 // The last steps of a build: the form that is asked for, and the variable count.
+#![tactic(auto)]
 ghost use Rattle.std.specs.Prelude.{List, ◌≡◌, ℕ, length};
 ghost use Rattle.energy.specs.Finished.{in_form};
 ghost use Rattle.energy.specs.Model.{counted};
@@ -11,7 +12,7 @@ use store_ising::to_ising;
 use units::Form;
 
 // The offset and the pair count of a finished model, and its variable count.
-#[derive(Drop)]
+#[derive(Clone, Copy)]
 pub struct Counted {
     pub totals: Totals,
     pub variables: usize,

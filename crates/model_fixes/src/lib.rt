@@ -1,4 +1,5 @@
 // Which qubits a build fixes, in fixing order: the joined qubit true, constraints in order, 1 true, 0 false.
+#![tactic(auto)]
 ghost use Rattle.std.specs.Prelude.{[], ◌≡◌, ◌+◌, ◌<◌, get_or};
 ghost use Rattle.circuit.specs.Meaning.{circuit_of};
 ghost use Rattle.numbering.specs.State.{mk};
@@ -11,14 +12,14 @@ use store::Totals;
 use units::Qubit;
 
 // A qubit that is fixed, and the value.
-#[derive(Drop)]
+#[derive(Clone, Copy)]
 pub struct Fix {
     pub qubit: Qubit,
     pub on: bool,
 }
 
 // All qubits are fixed; or a qubit is to be fixed to two values.
-#[derive(Drop)]
+#[derive(Clone, Copy)]
 pub enum Fixed {
     Done(Totals),
     Clash(Qubit),

@@ -1,4 +1,5 @@
 // The row of a name: its kind, and the qubits at its slots. What differs by kind lies here.
+#![tactic(auto)]
 ghost use Rattle.std.specs.Prelude.{[], ◌∷◌, ◌≡◌, ◌+◌, ◌-◌, ◌≤◌, ◌<◌, length, get_or};
 ghost use Rattle.energy.specs.Plain.{more, mid};
 ghost use Rattle.circuit.specs.File.{field, kind_at};
@@ -16,14 +17,14 @@ use store_place::Wires;
 use units::Qubit;
 
 // The row of a gate: by the penalty of a kind, or none.
-#[derive(Drop)]
+#[derive(Clone, Copy)]
 pub enum Ruled {
     By(Kind),
     Free,
 }
 
 // A row that is to be placed, with the qubits at its slots; or none.
-#[derive(Drop)]
+#[derive(Clone, Copy)]
 pub enum Placed {
     At(Kind, Wires),
     Nothing,

@@ -2,6 +2,7 @@
 // values (2 bytes), the length of the circuit (4 bytes), the circuit, and 8 bytes for each value, all little endian. For each it writes `case K`, from 0, and
 // then what the model or run program writes, with no limit of 4,096 bytes; after a run also `values` and the value bytes of the model's names. A circuit longer
 // than any that passes check 2 is read past and answered `refused 2 0`. A stream that ends inside a case, or a form or a job over 1, ends with the line `malformed`.
+#![tactic(auto)]
 mod reading;
 
 ghost use Rattle.std.specs.Prelude.{◌≤◌, length};

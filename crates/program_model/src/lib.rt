@@ -1,4 +1,5 @@
 // The two model programs, but for the form: a circuit from standard input, and its model's text, or its refusal, to standard output.
+#![tactic(auto)]
 use circuit::Refusal;
 use libc::STDIN_FILENO;
 use program_output::{write_front, write_refusal};

@@ -1,5 +1,6 @@
 // The two run programs, but for the form: a circuit file and the values of its inputs as arguments, and the run's lines, or its refusal, to standard output.
 // What cannot be read is said in a line on standard error, and then nothing is written to standard output.
+#![tactic(auto)]
 ghost use Rattle.std.specs.Prelude.{◌≡◌, length};
 ghost use Rattle.program_run.specs.Inside.{Inside};
 
@@ -11,7 +12,7 @@ use run::fresh::run_fresh;
 use units::{Form, lesser};
 
 // What reading gave: that many bytes, or that it failed.
-#[derive(Drop)]
+#[derive(Clone, Copy)]
 pub enum Got {
     Bytes(usize),
     Failed,

@@ -1,4 +1,5 @@
 // The names and the finished model of a circuit that passed the checks, in tables of exactly the lengths of 7; or refusal 8 or 9, with all of them zeroed.
+#![tactic(auto)]
 ghost use Rattle.std.specs.Prelude.{◌≡◌};
 ghost use Rattle.circuit.specs.Meaning.{circuit_of};
 ghost use Rattle.qubot_fill.specs.Made.{make};
@@ -14,7 +15,7 @@ use units::{Form, Gate, Qubit};
 pub mod parts;
 
 // What became of the tables.
-#[derive(Drop)]
+#[derive(Clone, Copy)]
 pub enum Filled {
     // 8: the gate that already has a qubit when its turn comes
     Already(Gate),

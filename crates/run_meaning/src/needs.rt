@@ -15,14 +15,14 @@ use run_values::{Went, stops};
 use units::Qubit;
 
 // The next row and the next pair of a walk over the rows.
-#[derive(Drop)]
+#[derive(Clone, Copy)]
 pub struct Cursor {
     pub q: usize,
     pub k: usize,
 }
 
 // The next name of the walk, or a row that there is not, or the end; and how the walk goes on.
-#[derive(Drop)]
+#[derive(Clone, Copy)]
 pub enum Next {
     Name(Qubit, Cursor),
     Pass(Cursor),

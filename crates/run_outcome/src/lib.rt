@@ -3,14 +3,14 @@ use circuit::Refusal;
 use units::Energy;
 
 // The energy and the verdict, or why there is none.
-#[derive(Drop)]
+#[derive(Clone, Copy)]
 pub enum Outcome {
     Ran(Energy, bool),
     Refused(Refusal),
 }
 
 // The answer of a run: the true bad states are the first `count` of `nids`, in file order.
-#[derive(Drop)]
+#[derive(Clone, Copy)]
 pub struct Run {
     pub outcome: Outcome,
     pub nids: [u64; 64],

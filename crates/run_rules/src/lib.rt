@@ -1,4 +1,5 @@
 // The rule of a qubit, read off its origin and role and the circuit; it is not stored. Its value from those that it reads; which those are is the crate `run_operands`.
+#![tactic(auto)]
 use circuit::GateKind;
 use units::Qubit;
 
@@ -6,7 +7,7 @@ pub mod apply;
 pub mod find;
 
 // The rules by the Rust's names. A division has its index and its lists' numbers.
-#[derive(Drop)]
+#[derive(Clone, Copy)]
 pub enum Rule {
     Not(Qubit),
     And(Qubit, Qubit),
@@ -33,7 +34,7 @@ pub enum Rule {
 }
 
 // Which adder a gate is, if any.
-#[derive(Drop)]
+#[derive(Clone, Copy)]
 pub enum Adder {
     Neither,
     Half,
@@ -41,7 +42,7 @@ pub enum Adder {
 }
 
 // What a rule does once it has read its operands.
-#[derive(Drop)]
+#[derive(Clone, Copy)]
 pub enum Act {
     Plain,
     Quotient {
@@ -58,7 +59,7 @@ pub enum Act {
 }
 
 // The first n operands stand in the rule itself.
-#[derive(Drop)]
+#[derive(Clone, Copy)]
 pub struct Few {
     pub n: usize,
     pub x1: Qubit,
@@ -67,14 +68,14 @@ pub struct Few {
 }
 
 // The bits of a list: its first record, and how many.
-#[derive(Drop)]
+#[derive(Clone, Copy)]
 pub struct Part {
     pub from: usize,
     pub bits: usize,
 }
 
 // What a rule reads, in order: its own operands, then the bits of two lists.
-#[derive(Drop)]
+#[derive(Clone, Copy)]
 pub struct Operands {
     pub few: Few,
     pub first: Part,
@@ -82,7 +83,7 @@ pub struct Operands {
 }
 
 // What a gate's record says of its rules: its kind, its index, its fields, and the qubits of the gates that they name.
-#[derive(Drop)]
+#[derive(Clone, Copy)]
 pub struct Reading {
     pub kind: GateKind,
     pub index: u8,

@@ -1,4 +1,5 @@
 // A run: values, energy, the true bad states, the verdict; or the refusal.
+#![tactic(auto)]
 ghost use Rattle.std.specs.Prelude.{◌≡◌, List, ◌++◌, ℕ, ◌+◌, ◌*◌, ◌-◌, ◌≤◌, ◌<◌, length, take, replicate};
 ghost use Rattle.circuit.specs.Meaning.{circuit_of};
 ghost use Rattle.numbering.specs.State.{mk};
@@ -39,7 +40,7 @@ fn refusal_of(x: Stop) -> Refusal
 }
 
 // The true bad states: the first `count` of `nids`.
-#[derive(Drop)]
+#[derive(Clone, Copy)]
 pub struct Listing {
     pub nids: [u64; 64],
     pub count: usize,

@@ -1,4 +1,5 @@
 // The value of a qubit from those that its rule reads, put into the table; 14 and 15.
+#![tactic(auto)]
 ghost use Rattle.std.specs.Prelude.{◌≡◌};
 ghost use Rattle.run_values.specs.Code.{is_stop};
 
@@ -7,7 +8,7 @@ use units::{Gate, Qubit};
 pub mod settle;
 
 // Why a run stops while values are given and found: 12 to 15.
-#[derive(Drop)]
+#[derive(Clone, Copy)]
 pub enum Stop {
     NoQubit(Gate),
     NotUsedUp(u16),
@@ -16,7 +17,7 @@ pub enum Stop {
 }
 
 // A step of a run went on, or the run stopped there.
-#[derive(Drop)]
+#[derive(Clone, Copy)]
 pub enum Went {
     On,
     Stopped(Stop),

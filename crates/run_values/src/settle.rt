@@ -14,7 +14,7 @@ use run_rules::{Act, Operands, Rule};
 use units::Qubit;
 
 // A rule's value, or why it has none.
-#[derive(Drop)]
+#[derive(Clone, Copy)]
 pub enum Value {
     Known(bool),
     ZeroDivisor,

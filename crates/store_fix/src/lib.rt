@@ -1,2 +1,3 @@
 // Fixing a qubit of a finished model.
+#![tactic(auto)]
 pub mod fix;

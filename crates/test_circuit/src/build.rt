@@ -2,7 +2,7 @@
 ghost use Rattle.std.specs.Prelude.{◌<◌};
 
 // A stretch of records of one kind.
-#[derive(Drop)]
+#[derive(Clone, Copy)]
 pub struct Group {
     pub kind: usize,
     pub one: usize,

@@ -1,6 +1,7 @@
 // Runs the cases of standard input through the checks 1 to 7, and writes each answer: `name: refused N P`, or `name: accepted G B`.
 // A case is a line: a name and a colon; the lengths of the three tables; how many bytes stand past the records; then groups of nine
 // numbers, each a stretch of records: kind, byte 1, a, b, c, nid, how many, after how many records a rises by one (0: never), and by how much b rises each time.
+#![tactic(auto)]
 mod build;
 mod text;
 
@@ -12,7 +13,7 @@ use program_output::write_refusal;
 use text::{find, is_digit, number, step};
 
 // A group, and the place after it.
-#[derive(Drop)]
+#[derive(Clone, Copy)]
 struct Read {
     group: Group,
     next: usize,

@@ -2,7 +2,7 @@
 ghost use Rattle.std.specs.Prelude.{◌≡◌, true, cond, ◌≢◌, ℕ, ◌+◌, ◌<◌, ◌≤◌, ltb, length, get_or};
 
 // A number that was read, and the place after it and the space that follows.
-#[derive(Drop)]
+#[derive(Clone, Copy)]
 pub struct Parsed {
     pub value: usize,
     pub next: usize,

@@ -1,4 +1,5 @@
 // The text of what a build left, into a lent buffer; or the build's refusal, or 17.
+#![tactic(auto)]
 ghost use mathlib.Core.List.{[], zip};
 ghost use Rattle.std.specs.Prelude.{◌≡◌, length, take};
 ghost use Rattle.circuit.specs.Meaning.{circuit_of};
@@ -15,7 +16,7 @@ use qubot_left::{Built, Finished};
 use text_print::print_model;
 
 // The length of the text in the buffer, or the refusal.
-#[derive(Drop)]
+#[derive(Clone, Copy)]
 pub enum Dumped {
     Text(usize),
     Refused(Refusal),

@@ -1,24 +1,25 @@
 // What the numbers of this project count. An energy travels with its form, as one record of the float, its signed count of halves and the form; a gate's
 // number and a qubit's name are two types, and the one is never accepted for the other.
 // Everywhere else in the project, in tables and in contracts, a coefficient or an energy is a whole count of halves, in the 0/1 form and in the Ising form alike.
+#![tactic(auto)]
 ghost use Rattle.std.specs.Prelude.{◌≡◌, min, pos};
 ghost use Rattle.laws.specs.Equal.{eq_z};
 ghost use Rattle.units.specs.Halves.{halves_of, energy_of};
 ghost use Rattle.units.specs.Name.{constant, first_new};
 
 // The form of a model: a false qubit counts 0 in the one and -1 in the other.
-#[derive(Drop)]
+#[derive(Clone, Copy)]
 pub enum Form {
     Binary,
     Ising,
 }
 
 // A gate's number: the place of its record in the file.
-#[derive(Drop)]
+#[derive(Clone, Copy)]
 pub struct Gate(pub u16);
 
 // A qubit's name.
-#[derive(Drop)]
+#[derive(Clone, Copy)]
 pub struct Qubit(pub u16);
 
 impl Qubit {
@@ -44,7 +45,7 @@ impl Qubit {
 }
 
 // An energy, always with its form.
-#[derive(Drop)]
+#[derive(Clone, Copy)]
 pub struct Energy {
     pub value: f64,
     pub halves: i64,

@@ -1,0 +1,20 @@
+-- `cases_answer::put_answer` meets its contract: by the length of the circuit and the job, on the circuit and the values that stand behind the head.
+use Rattle.std.proofs.Common.{arith, length-take}
+use Rattle.text.specs.Paste.{printed-as}
+use Rattle.cases_answer.proofs.Behind.{too_long, model-behind, run-behind}
+use Rattle.cases_answer.proofs.put_answer.Goals as goal
+
+pub returns-then-length-gt-LIMIT : goal.returns-then-length-gt-LIMIT
+returns-then-length-gt-LIMIT c = (printed-as (too_long _ _ _ c.if-length-gt-LIMIT.true) c.print_refusal.ensures.0, omega (arith, c.print_refusal.ensures.1))
+
+pub slice_bounds-put_model-end : goal.slice_bounds-put_model-end
+slice_bounds-put_model-end c = simp length-take (omega arith)
+
+pub slice_bounds-put_given-end : goal.slice_bounds-put_given-end
+slice_bounds-put_given-end c = simp length-take (omega arith)
+
+pub returns-in-Model : goal.returns-in-Model
+returns-in-Model c = (printed-as (model-behind _ _ _ _ c.?if1.false c.?enum_told.given.1 c.?lesser.ensures) c.put_model.ensures.0, omega (arith, c.put_model.ensures.1))
+
+pub returns-in-Run : goal.returns-in-Run
+returns-in-Run c = (printed-as (run-behind _ _ _ _ c.?if1.false c.?enum-told2.given.1 c.?lesser.ensures) c.put_given.ensures.0, omega (arith, c.put_given.ensures.1))

@@ -1,0 +1,11 @@
+-- `cases_answer::put_run` meets its contract: the lines, and after a run that was made the values.
+use Rattle.std.proofs.Common.{arith}
+use Rattle.text.specs.Paste.{then, printed-as}
+use Rattle.cases_answer.proofs.Ran.{with_values, without}
+use Rattle.cases_answer.proofs.put_run.Goals as goal
+
+pub returns-in-Ran : goal.returns-in-Ran
+returns-in-Ran c = (printed-as (with_values _ _ _ _ c.in-Ran.is) (then c.print_run-end.ensures.0 c.put_values.ensures.0), omega (arith, c.print_run-end.ensures.1, c.put_values.ensures.1, c.requires))
+
+pub returns-in-Refused : goal.returns-in-Refused
+returns-in-Refused c = (printed-as (without _ _ _ c.in-Refused.is) c.print_run-end.ensures.0, omega (arith, c.print_run-end.ensures.1))

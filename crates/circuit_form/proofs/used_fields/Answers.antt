@@ -1,0 +1,9 @@
+-- `circuit_form::used_fields` meets its contract: its table is the definition's.
+use Rattle.std.proofs.Common.{arith, sym}
+use lib.ListN.{get_or-eq_default}
+use Rattle.circuit.specs.Form.{used, used_fields}
+use Rattle.circuit_form.proofs.used_fields.Goals as goal
+
+pub returns-else-k-lt24 : goal.returns-else-k-lt24
+unfolding used_fields
+returns-else-k-lt24 c = sym (get_or-eq_default used 0 {n = c.args.kind} (omega arith))

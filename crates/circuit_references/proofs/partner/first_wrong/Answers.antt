@@ -1,0 +1,30 @@
+use Rattle.std.proofs.Common.{◌-◌, sym, ◌∙◌, ap₂, ◌||◌, arith}
+use Rattle.circuit.specs.File.{records as records_of}
+use Rattle.circuit.specs.Search.{stop, go_on, end, all_left}
+use Rattle.circuit.specs.Partner.{wrong, first_wrong}
+use Rattle.circuit.specs.Marks.{marks-none}
+use Rattle.circuit_references.proofs.partner.first_wrong.Goals as goal
+
+pub loop-n-init : goal.loop-n-init
+unfolding first_wrong
+loop-n-init c = (omega arith, marks-none _, all_left (wrong c.args.c.now) (records_of c.args.c.now))
+
+pub wrong_gate-gate-requires : goal.wrong_gate-gate-requires
+wrong_gate-gate-requires c = (c.requires.0, c.loop-n-test.true, c.requires.1)
+
+pub wrong_input-input-requires : goal.wrong_input-input-requires
+wrong_input-input-requires c = (c.requires.0, c.loop-n-test.true, c.loop-n.invariant.1)
+
+pub returns-then-gate-input : goal.returns-then-gate-input
+unfolding wrong
+returns-then-gate-input c = stop _ _ _ _ c.loop-n.invariant.2 c.loop-n-test.true (sym (ap₂ ◌||◌ c.wrong_gate-gate.ensures c.wrong_input-input.ensures) ∙ c.if-gate-input.true)
+
+pub mark-requires : goal.mark-requires
+mark-requires c = (c.requires.0, c.loop-n-test.true, c.loop-n.invariant.1)
+
+pub loop-n-preserved : goal.loop-n-preserved
+unfolding wrong
+loop-n-preserved c = (omega arith, c.mark.ensures, go_on _ _ _ _ c.loop-n.invariant.2 c.loop-n-test.true (sym (ap₂ ◌||◌ c.wrong_gate-gate.ensures c.wrong_input-input.ensures) ∙ c.if-gate-input.false))
+
+pub returns : goal.returns
+returns c = end _ _ _ _ c.loop-n.invariant.2 c.loop-n-test.false

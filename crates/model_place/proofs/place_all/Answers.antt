@@ -1,0 +1,49 @@
+use Rattle.std.proofs.Common.{refl, ◌∙◌, ◌-◌, arith}
+use Rattle.model_rows.specs.Rowed.{fin}
+use Rattle.model_place.specs.Blank.{names-small, starts, can-place, turn, all-logged}
+use Rattle.model_place.proofs.place_all.Goals as goal
+
+pub loop-q-init : goal.loop-q-init
+loop-q-init c = (starts _ _ _ _ c.requires.0 c.requires.1, refl, refl, refl, refl, refl)
+
+pub row_at-p-requires : goal.row_at-p-requires
+row_at-p-requires c = (c.requires.0, c.loop-q.invariant.0.low, c.loop-q-test.true)
+
+pub place_one-t-requires : goal.place_one-t-requires
+place_one-t-requires c = can-place _ _ _ _ c.requires.0 c.loop-q.invariant.0 c.loop-q-test.true c.row_at-p.ensures
+
+pub overflow_add-q : goal.overflow_add-q
+overflow_add-q c = omega (arith, c.loop-q-test.true, (fin _ _ _ _ c.requires.0).at_most, names-small _ _ _ _ c.requires.0)
+
+pub loop-q-smaller : goal.loop-q-smaller
+loop-q-smaller c = omega (arith, c.loop-q-test.true)
+
+pub loop-q-preserved : goal.loop-q-preserved
+loop-q-preserved c =
+    let v = c.place_one-t in
+    let i = c.loop-q.invariant in (
+      turn _ _ _ _ c.requires.0 i.0 c.loop-q-test.true c.row_at-p.ensures v.auto.1.1.1.0 v.auto.1.1.1.1.0 v.ensures,
+      v.auto.0 ∙ i.1,
+      v.auto.1.0 ∙ i.2,
+      v.auto.1.1.0 ∙ i.3,
+      v.auto.1.1.1.0 ∙ i.4,
+      v.auto.1.1.1.1.0 ∙ i.5,
+    )
+
+pub shape_of-linear : goal.shape_of-linear
+shape_of-linear c = c.loop-q.invariant.1
+
+pub shape_of-present : goal.shape_of-present
+shape_of-present c = c.loop-q.invariant.2
+
+pub shape_of-rows : goal.shape_of-rows
+shape_of-rows c = c.loop-q.invariant.3
+
+pub shape_of-keys : goal.shape_of-keys
+shape_of-keys c = c.loop-q.invariant.4
+
+pub shape_of-weights : goal.shape_of-weights
+shape_of-weights c = c.loop-q.invariant.5
+
+pub returns : goal.returns
+returns c = all-logged c.loop-q.invariant.0 c.loop-q-test.false

@@ -1,0 +1,12 @@
+-- `run_values::settle::list_value` meets its contract.
+use Rattle.std.proofs.Common.{map, ◌≡◌, ◌+◌, ◌-◌, ◌≤◌}
+use Rattle.run_rules.specs.Code.{name_in}
+use Rattle.run_rules.specs.Layout.{named}
+use Rattle.run_values.specs.Need.{number}
+use Rattle.run_values.proofs.settle.list_value.Given as goal
+
+abbrev pub invariant-loop-i : goal.invariant-loop-i
+invariant-loop-i l = (l.i ≤ l.bits) × (l.sum ≡ number l.values (map (name_in l.qubits) (named l.circuit (l.from + l.i) (l.bits - l.i))))
+
+abbrev pub decreases-loop-i : goal.decreases-loop-i
+decreases-loop-i l = l.i

@@ -1,0 +1,82 @@
+-- `text_dump::dump_model` meets its contract: the build, and then what it left is printed.
+use Rattle.std.proofs.Common.{◌≡◌, List, [], ℕ}
+use Rattle.qubot_left.specs.Built.{Tables, lent}
+use Rattle.text_left.specs.declared.Dumped.{Dumped}
+use Rattle.text_left.specs.Dumped.{printed_by, dumped, by-build}
+use Rattle.text_left.specs.Left.{LeftBy, left_by}
+use Rattle.text_dump.proofs.dump_model.Goals as goal
+
+-- the function's entry, from after the build
+abbrev start : tie.After-build → tie.Start
+start m = m.before.before.before.before.before.before.before.before.before.before.before.before.before.before.before.before.before.before.before
+
+-- the tables as they were lent
+abbrev entered : tie.Start → Tables
+entered s =
+    lent s.args.qubits.now s.args.origins.now s.args.roles.now s.args.linear.now s.args.has-linear.now s.args.has-row.now
+    s.args.fixed.now
+    s.args.keys.now
+    s.args.weights.now
+
+-- the tables as the build left them
+abbrev left : tie.After-build → Tables
+left m =
+    lent m.build.new.1.1.0 m.build.new.1.1.1.0 m.build.new.1.1.1.1.0 m.build.new.1.1.1.1.1.0 m.build.new.1.1.1.1.1.1.0
+    m.build.new.1.1.1.1.1.1.1.0
+    m.build.new.1.1.1.1.1.1.1.1.0
+    m.build.new.1.1.1.1.1.1.1.1.1.0
+    m.build.new.1.1.1.1.1.1.1.1.1.1.0
+
+-- those of them that are printed
+abbrev printed : tie.After-build → Tables
+printed m =
+    lent m.build.new.1.1.0 [] [] m.build.new.1.1.1.1.1.0 m.build.new.1.1.1.1.1.1.0 []
+    m.build.new.1.1.1.1.1.1.1.1.0
+    m.build.new.1.1.1.1.1.1.1.1.1.0
+    m.build.new.1.1.1.1.1.1.1.1.1.1.0
+
+-- what follows from the build's answer
+fit : (m : tie.After-build) → LeftBy (start m).args.circuit.now (printed m) m.build.result
+fit m = left_by (start m).args.circuit.now (start m).args.form (entered (start m)) (left m) m.build.result m.build.ensures
+
+answered : (m : tie.After-build) (w : List ℕ × Dumped) → w ≡ printed_by (start m).args.circuit.now (start m).args.buf.now (printed m) m.build.result
+    → (left m, w) ≡ dumped (start m).args.circuit.now (start m).args.form (entered (start m)) (start m).args.buf.now
+answered m w e =
+    by-build (start m).args.circuit.now (start m).args.form (entered (start m)) (left m) (start m).args.buf.now m.build.result w m.build.ensures e
+
+-- after the build, from the end
+abbrev built : tie.After-slice-known16 → tie.After-build
+built c = c.before.before.before.before.before.before.before.before.before.before.before.before.before.before.before.before.before.before.before.before.before.before.before.before.before.before
+
+pub print_built-requires : goal.print_built-requires
+print_built-requires c = fit c
+
+pub shape_of-qubits : goal.shape_of-qubits
+shape_of-qubits c = (built c).build.auto.1.1.0
+
+pub shape_of-origins : goal.shape_of-origins
+shape_of-origins c = (built c).build.auto.1.1.1.0
+
+pub shape_of-roles : goal.shape_of-roles
+shape_of-roles c = (built c).build.auto.1.1.1.1.0
+
+pub shape_of-linear : goal.shape_of-linear
+shape_of-linear c = (built c).build.auto.1.1.1.1.1.0
+
+pub shape_of-has_linear : goal.shape_of-has_linear
+shape_of-has_linear c = (built c).build.auto.1.1.1.1.1.1.0
+
+pub shape_of-has_row : goal.shape_of-has_row
+shape_of-has_row c = (built c).build.auto.1.1.1.1.1.1.1.0
+
+pub shape_of-fixed : goal.shape_of-fixed
+shape_of-fixed c = (built c).build.auto.1.1.1.1.1.1.1.1.0
+
+pub shape_of-keys : goal.shape_of-keys
+shape_of-keys c = (built c).build.auto.1.1.1.1.1.1.1.1.1.0
+
+pub shape_of-weights : goal.shape_of-weights
+shape_of-weights c = (built c).build.auto.1.1.1.1.1.1.1.1.1.1.0
+
+pub returns : goal.returns
+returns c = answered (built c) _ c.print_built.ensures
