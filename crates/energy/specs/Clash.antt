@@ -1,7 +1,7 @@
 -- Refusal 9: "a qubit is to be fixed to two values", given at a qubit: that of the first fix, in fixing order, that contradicts an earlier one.
 -- Assumes nothing.
 use Rattle.std.specs.Prelude.{◌≡◌, refl, ◌⊎◌, Bool, true, false, not, ◌&&◌, ◌||◌, cond, List, [], ◌∷◌, ◌++◌, ℕ, ◌<◌, eqb, length, get_or, set}
-use Rattle.std.proofs.Common.{sym, ◌∙◌, ap, inl, inr, arith, length-set, get_or-set_same, get_or-set_other, eq-eqb, ne_eqb}
+use Rattle.std.proofs.Common.{sym, subst, ◌∙◌, ap, inl, inr, arith, length-set, get_or-set_same, get_or-set_other, eq-eqb, ne_eqb}
 use Rattle.std.specs.Bool.{beq}
 use Rattle.std.proofs.Math.Decide.{ℕ_discrete}
 use Rattle.laws.specs.Test.{by_eqb, by-beq, ne-not, not-self}
@@ -215,4 +215,4 @@ clash-table l fs w z = table-after l [] fs w holds
 pub clash-built : (n : ℕ) (d : Named) → Numbering d → Room n d → (cs : List Constraint) → Known d.reached cs
     → clash_in (model n d).fixed (fixes d cs) ≡ clash (fixes d cs)
 clash-built n d num room cs known =
-    clash-table (model n d).fixed (fixes d cs) (rw (sized-model n d num room).fixed (fixes-within n d num room cs known)) (placed-fixed n (rows d))
+    clash-table (model n d).fixed (fixes d cs) (subst (λ (k : ℕ). Within k (fixes d cs)) (sym (sized-model n d num room).fixed) (fixes-within n d num room cs known)) (placed-fixed n (rows d))

@@ -1,6 +1,8 @@
--- `units::f64_of_halves` meets its contract: the nearest float of the count, times 0.5, is what the definition says.
-use Rattle.std.proofs.Common.{ap, ◌∙◌, to_z-of_z, Float}
-use lib.Ieee.{binary64, mul, of_int, of_bits}
+-- the nearest float of the count, times 0.5, is what the definition says
+use Rattle.std.proofs.Common.{ap, ◌∙◌, to_z-of_z}
+use Rattle.std.specs.Prelude.{Float}
+use Rattle.std.specs.Float.{binary64}
+use Rattle.std.specs.Float.Ieee.{mul, of_int, of_bits}
 use Rattle.units.specs.Halves.{halves_of}
 use Rattle.units.proofs.f64_of_halves.Goals as goal
 
