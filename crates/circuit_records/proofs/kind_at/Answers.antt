@@ -1,6 +1,7 @@
 -- `circuit_records::kind_at` meets its contract: each arm knows the kind, and the last one that it is none of the others.
-use Rattle.std.proofs.Common.{ne_eqb}
+use Rattle.std.proofs.Common.{rules, ne_eqb}
 use Rattle.circuit.specs.File.{kind_at, kind_of}
+use borrow.Author.Tests.{tests}
 use Rattle.circuit_records.proofs.kind_at.Goals as goal
 
 pub returns-in-1 : goal.returns-in-1
@@ -57,20 +58,4 @@ returns-in-13 c = rw (← c.kind_byte_at-kind.ensures, c.in-13.is)
 
 pub returns-in_default : goal.returns-in_default
 unfolding kind_at kind_of
-returns-in_default c =
-    rw (← c.kind_byte_at-kind.ensures)
-    (simp (
-      ne_eqb _ _ c.in_default.rest.1,
-      ne_eqb _ _ c.in_default.rest.0.1,
-      ne_eqb _ _ c.in_default.rest.0.0.1,
-      ne_eqb _ _ c.in_default.rest.0.0.0.1,
-      ne_eqb _ _ c.in_default.rest.0.0.0.0.1,
-      ne_eqb _ _ c.in_default.rest.0.0.0.0.0.1,
-      ne_eqb _ _ c.in_default.rest.0.0.0.0.0.0.1,
-      ne_eqb _ _ c.in_default.rest.0.0.0.0.0.0.0.1,
-      ne_eqb _ _ c.in_default.rest.0.0.0.0.0.0.0.0.1,
-      ne_eqb _ _ c.in_default.rest.0.0.0.0.0.0.0.0.0.1,
-      ne_eqb _ _ c.in_default.rest.0.0.0.0.0.0.0.0.0.0.1,
-      ne_eqb _ _ c.in_default.rest.0.0.0.0.0.0.0.0.0.0.0.1,
-      ne_eqb _ _ c.in_default.rest.0.0.0.0.0.0.0.0.0.0.0.0.1,
-    ))
+returns-in_default c = rw (← c.kind_byte_at-kind.ensures) (search (tests, rules))

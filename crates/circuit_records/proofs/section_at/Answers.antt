@@ -1,7 +1,8 @@
 -- `circuit_records::section_at` meets its contract: each arm knows the kind, and the last one that it is none of the others.
-use Rattle.std.proofs.Common.{arith, le-leb, ne_eqb}
+use Rattle.std.proofs.Common.{rules, arith, le-leb, ne_eqb}
 use borrow.Author.Tests.{lt-leb}
 use Rattle.circuit.specs.File.{section_at, section_of}
+use borrow.Author.Tests.{tests}
 use Rattle.circuit_records.proofs.section_at.Goals as goal
 
 pub returns-in-20 : goal.returns-in-20
@@ -26,12 +27,4 @@ returns-in-0-to-13 c = rw (← c.kind_byte_at-kind.ensures, le-leb c.kind_byte_a
 
 pub returns-in_default : goal.returns-in_default
 unfolding section_at section_of
-returns-in_default c =
-    rw (← c.kind_byte_at-kind.ensures)
-    (simp (
-      lt-leb _ _ c.if-kind-lt14.false,
-      ne_eqb _ _ c.in_default-1.rest.1,
-      ne_eqb _ _ c.in_default-1.rest.0.1,
-      ne_eqb _ _ c.in_default-1.rest.0.0.1,
-      ne_eqb _ _ c.in_default-1.rest.0.0.0.1,
-    ))
+returns-in_default c = rw (← c.kind_byte_at-kind.ensures) (search (tests, rules))

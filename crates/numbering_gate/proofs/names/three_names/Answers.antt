@@ -1,5 +1,6 @@
 -- `names::three_names` meets its contract: after its stores the tables are `three_names` by computation. Assumes nothing.
-use Rattle.std.proofs.Common.{arith, length-set}
+use Rattle.std.proofs.Common.{arith, length-set, rules}
+use Rattle.numbering_gate.specs.Names.{three_names}
 use Rattle.numbering_gate.proofs.names.three_names.Goals as goal
 
 pub bounds-origins-carry : goal.bounds-origins-carry
@@ -13,3 +14,7 @@ bounds-origins-result c = simp length-set (omega arith)
 
 pub bounds-roles-result : goal.bounds-roles-result
 bounds-roles-result c = simp length-set (omega arith)
+
+pub returns : goal.returns
+unfolding three_names
+returns c = search rules
