@@ -5,7 +5,8 @@ ghost use Rattle.std.specs.Prelude.{◌≤◌};
 
 use circuit::Checked;
 use circuit_check::check;
-use libc::{STDIN_FILENO, STDOUT_FILENO};
+use program_input::read_full;
+use std::io;
 
 // 1 where the file is accepted.
 fn accepted(c: &[u8], gates: usize) -> usize
@@ -28,10 +29,10 @@ fn repeat(c: &[u8]) -> usize {
     count
 }
 
-fn main() {
+fn main(rt: HostRuntime) -> io::Result<()> {
     let mut input = [0u8; 102656];
-    let n = io::read_full(STDIN_FILENO, &mut input);
+    let mut stdin = rt.stdin();
+    let n = read_full(&mut stdin, &mut input)?;
     let count = repeat(&input[..n]);
-    io::print_decimal(STDOUT_FILENO, count as u64);
-    io::write_all(STDOUT_FILENO, b"\n");
+    println!(rt; "{count}")
 }

@@ -6,8 +6,8 @@ ghost use Rattle.penalty.specs.Rows.{Slot};
 ghost use Rattle.store.specs.Tables.{tables, model_of};
 ghost use Rattle.store_place.specs.Wiring.{slots_of};
 
-use libc::STDOUT_FILENO;
 use penalty::Kind;
+use std::io;
 use store::Totals;
 use store_place::Wires;
 use store_place::place::place;
@@ -111,7 +111,7 @@ fn repeat(
     count
 }
 
-fn main() {
+fn main(rt: HostRuntime) -> io::Result<()> {
     let mut linear = [0i64; 3065];
     let mut present = [0u8; 3065];
     let mut rows = [0u8; 3065];
@@ -128,6 +128,5 @@ fn main() {
         &mut sk,
         &mut sw,
     );
-    io::print_decimal(STDOUT_FILENO, count as u64);
-    io::write_all(STDOUT_FILENO, b"\n");
+    println!(rt; "{count}")
 }

@@ -10,64 +10,67 @@ ghost use Rattle.std.specs.Prelude.{◌≤◌, length};
 use cases::heads::head_of;
 use cases::{Asked, Head};
 use cases_answer::put_whole;
-use libc::STDIN_FILENO;
+use program_input::read_full;
 use program_output::write_front;
 use reading::read_case;
+use std::io;
 
 // The line that ends a stream out of form.
-fn write_malformed() {
-    write_front(b"malformed\n", 10);
+fn write_malformed(rt: &HostRuntime) {
+    write_front(rt, b"malformed\n", 10);
 }
 
 // Reads and answers what follows a head. Answers whether the stream goes on: not where the answer cannot be written.
-fn answer_case(number: u64, asked: Asked, input: &mut [u8], out: &mut [u8]) -> bool
+fn answer_case(rt: &HostRuntime, number: u64, asked: Asked, input: &mut [u8], out: &mut [u8]) -> io::Result<bool>
     requires { 7837 ≤ length out.old }
 {
-    if read_case(asked, input) {
+    if read_case(rt, asked, input)? {
         let n = put_whole(number, asked, input, out);
-        return write_front(out, n);
+        return Ok(write_front(rt, out, n));
     }
-    write_malformed();
-    false
+    write_malformed(rt);
+    Ok(false)
 }
 
 // One case more, or the end: a stream may end before a head.
-fn answer_next(number: u64, input: &mut [u8], out: &mut [u8]) -> bool
+fn answer_next(rt: &HostRuntime, number: u64, input: &mut [u8], out: &mut [u8]) -> io::Result<bool>
     requires { 7837 ≤ length out.old }
 {
     let mut bytes = [0u8; 8];
-    let n = io::read_full(STDIN_FILENO, &mut bytes);
+    let mut stdin = rt.stdin();
+    let n = read_full(&mut stdin, &mut bytes)?;
     if n == 0 {
-        return false;
+        return Ok(false);
     }
     let head = head_of(&bytes[..n]);
     match head {
         Head::Malformed => {
-            write_malformed();
-            false
+            write_malformed(rt);
+            Ok(false)
         }
-        Head::Case(asked) => answer_case(number, asked, input, out),
+        Head::Case(asked) => answer_case(rt, number, asked, input, out),
     }
 }
 
 // All cases of the stream. Nothing says that a stream ends, so the cases are counted.
-fn answer_all(input: &mut [u8], out: &mut [u8])
+fn answer_all(rt: &HostRuntime, input: &mut [u8], out: &mut [u8]) -> io::Result<()>
     requires { 7837 ≤ length out.old }
 {
     let mut number: u64 = 0;
     while number < 18446744073709551615 {
-        if !answer_next(number, input, out) {
-            return;
+        if !answer_next(rt, number, input, out)? {
+            return Ok(());
         }
         number += 1;
     }
+    Ok(())
 }
 
 // The input has room for the longest case that is answered, 102,656 bytes of circuit and 65,535 values; the output for the longest answer: a model's text has at
 // most 3,065 linear entries of 16 bytes, 10,192 pairs of 21, 1,000 input bits of 7 in 64 lines with 23 bytes more, 64 bad states of 28 and a first line of 17,
 // about 273,000 bytes; a run's lines have less than 8,000.
-fn main() {
+fn main(rt: HostRuntime) -> io::Result<()> {
     let mut input = [0u8; 626936];
     let mut output = [0u8; 300000];
-    answer_all(&mut input, &mut output);
+    answer_all(&rt, &mut input, &mut output)
 }

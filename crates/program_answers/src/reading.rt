@@ -1,43 +1,46 @@
 // Standard input. What is read no contract can say.
-ghost use Rattle.std.specs.Prelude.{◌≡◌, true, ◌+◌, ◌*◌, ◌≤◌, length};
+ghost use Rattle.std.specs.Prelude.{◌≡◌, true, ◌+◌, ◌*◌, ◌≤◌, length, IfOk};
 ghost use Rattle.cases_answer.specs.Answer.{limit};
 
 use cases::{Asked, LIMIT};
-use libc::STDIN_FILENO;
+use program_input::read_full;
+use std::io;
 
 // Reads n bytes, or as many as there are or as the buffer has room for. Answers how many.
-fn read_some(buf: &mut [u8], n: usize) -> usize
-    ensures { (result ≤ n) × (result ≤ length buf.new) }
+fn read_some(rt: &HostRuntime, buf: &mut [u8], n: usize) -> io::Result<usize>
+    ensures { IfOk result (λ got. (got ≤ n) × (got ≤ length buf.new)) }
 {
+    let mut stdin = rt.stdin();
     if n < buf.len() {
-        return io::read_full(STDIN_FILENO, &mut buf[..n]);
+        return read_full(&mut stdin, &mut buf[..n]);
     }
-    io::read_full(STDIN_FILENO, buf)
+    read_full(&mut stdin, buf)
 }
 
 // Passes over n bytes. Answers whether there were as many.
-fn skip(buf: &mut [u8], n: usize) -> bool {
+fn skip(rt: &HostRuntime, buf: &mut [u8], n: usize) -> io::Result<bool> {
     let mut left = n;
     while 0 < left {
-        let got = read_some(buf, left);
+        let got = read_some(rt, buf, left)?;
         if got == 0 {
-            return false;
+            return Ok(false);
         }
         left -= got;
     }
-    true
+    Ok(true)
 }
 
 // Reads the circuit and the values of a case, or passes over them where the circuit is too long. Answers whether there were as many bytes: then they stand within
 // the buffer, but for those passed over.
-pub fn read_case(asked: Asked, buf: &mut [u8]) -> bool
-    ensures { result ≡ true → asked.length ≤ limit → asked.length + 8 * asked.values ≤ length buf.new }
+pub fn read_case(rt: &HostRuntime, asked: Asked, buf: &mut [u8]) -> io::Result<bool>
+    ensures { IfOk result (λ whole. whole ≡ true → asked.length ≤ limit → asked.length + 8 * asked.values ≤ length buf.new) }
 {
     let length = asked.length as usize;
     let values = asked.values as usize;
     let n = length + 8 * values;
     if LIMIT < length {
-        return skip(buf, n);
+        return skip(rt, buf, n);
     }
-    read_some(buf, n) == n
+    let got = read_some(rt, buf, n)?;
+    Ok(got == n)
 }

@@ -1,6 +1,8 @@
 // A circuit from standard input, and the text of its model in the 0/1 form.
+#![tactic(auto)]
+use std::io;
 use units::Form;
 
-fn main() {
-    program_model::print_from_input(Form::Binary);
+fn main(rt: HostRuntime) -> io::Result<()> {
+    program_model::print_from_input(&rt, Form::Binary)
 }

@@ -3,31 +3,51 @@
 ghost use Rattle.std.specs.Prelude.{◌≤◌, length};
 
 use circuit::Refusal;
-use libc::STDOUT_FILENO;
 use report::{print_refusal, print_run};
 use run_outcome::Run;
+use std::io;
+use std::io::Error;
+
+// What the system says of an error, without its number.
+fn said_of(text: &str) -> &str {
+    match text.split_once(" (os error ") {
+        Some((said, _)) => said,
+        None => text,
+    }
+}
+
+// A line on standard error: what failed, as the caller names it, a colon and what the system says of it.
+pub fn write_failure(rt: &HostRuntime, what: &[u8], error: Error) -> io::Result<()> {
+    let text = format!(in rt.alloc(); "{error}")?;
+    let said = said_of(text.as_str());
+    rt.stderr().write_all(what)?;
+    eprintln!(rt; ": {said}")
+}
 
 // The first n bytes of a text. Answers whether they were written.
-pub fn write_front(text: &[u8], n: usize) -> bool
+pub fn write_front(rt: &HostRuntime, text: &[u8], n: usize) -> bool
     requires { n ≤ length text.now }
 {
-    let written = io::write_all(STDOUT_FILENO, &text[..n]);
-    if !written {
-        os::fail(b"standard output");
+    match rt.write_all(&text[..n]) {
+        Ok(()) => true,
+        Err(error) => {
+            // where standard error cannot be written either, nothing is left to say it on
+            let _said = write_failure(rt, b"standard output", error).is_ok();
+            false
+        }
     }
-    written
 }
 
 // The line of a refusal.
-pub fn write_refusal(r: Refusal) {
+pub fn write_refusal(rt: &HostRuntime, r: Refusal) {
     let mut text = [0u8; 32];
     let n = print_refusal(r, &mut text);
-    write_front(&text, n);
+    write_front(rt, &text, n);
 }
 
 // The lines of a run.
-pub fn write_run(r: Run) {
+pub fn write_run(rt: &HostRuntime, r: Run) {
     let mut text = [0u8; 1674];
     let n = print_run(r, &mut text);
-    write_front(&text, n);
+    write_front(rt, &text, n);
 }

@@ -1,6 +1,7 @@
 // A circuit file and the values of its inputs as arguments, and the run's energy, its true bad states and the verdict, by the model in the 0/1 form.
+#![tactic(auto)]
 use units::Form;
 
-fn main() {
-    program_run::run_arguments(Form::Binary);
+fn main(rt: HostRuntime) {
+    program_run::run_arguments(&rt, Form::Binary);
 }

@@ -3,14 +3,15 @@
 // numbers, each a stretch of records: kind, byte 1, a, b, c, nid, how many, after how many records a rises by one (0: never), and by how much b rises each time.
 #![tactic(auto)]
 mod build;
-mod text;
+mod decimal;
 
 use build::{Group, fill};
 use circuit::Checked;
 use circuit_check::check;
-use libc::{STDIN_FILENO, STDOUT_FILENO};
+use decimal::{find, is_digit, number, step};
+use program_input::read_full;
 use program_output::write_refusal;
-use text::{find, is_digit, number, step};
+use std::io;
 
 // A group, and the place after it.
 #[derive(Clone, Copy)]
@@ -62,29 +63,30 @@ fn make(s: &[u8], at: usize, bytes: &mut [u8]) -> usize {
     records
 }
 
-fn answer(c: &[u8], gates: usize, qubits: usize, pairs: usize) {
+fn answer(rt: &HostRuntime, c: &[u8], gates: usize, qubits: usize, pairs: usize) -> io::Result<()> {
     let checked = check(c, gates, qubits, pairs);
-    io::write_all(STDOUT_FILENO, b" ");
+    print!(rt; " ")?;
     match checked {
-        Checked::Refused(r) => write_refusal(r),
+        Checked::Refused(r) => {
+            write_refusal(rt, r);
+            Ok(())
+        }
         Checked::Accepted(n) => {
-            io::write_all(STDOUT_FILENO, b"accepted ");
-            io::print_decimal(STDOUT_FILENO, n.gates as u64);
-            io::write_all(STDOUT_FILENO, b" ");
-            io::print_decimal(STDOUT_FILENO, n.bad_states as u64);
-            io::write_all(STDOUT_FILENO, b"\n");
+            let gates = n.gates;
+            let bads = n.bad_states;
+            println!(rt; "accepted {gates} {bads}")
         }
     }
 }
 
 // Runs the case that starts at `at`. Returns the start of the next line.
-fn run(s: &[u8], at: usize, bytes: &mut [u8]) -> usize {
+fn run(rt: &HostRuntime, s: &[u8], at: usize, bytes: &mut [u8]) -> io::Result<usize> {
     let colon = find(s, at, b':');
     if at <= colon {
         if colon < s.len() {
             let past = colon + 1;
             let name = &s[at..past];
-            io::write_all(STDOUT_FILENO, name);
+            rt.write_all(name)?;
         }
     }
     let gates = number(s, step(step(colon)));
@@ -95,26 +97,28 @@ fn run(s: &[u8], at: usize, bytes: &mut [u8]) -> usize {
     let len = 16 * (records % 8192) + extra.value % 16;
     if len <= bytes.len() {
         let c = &bytes[..len];
-        answer(c, gates.value, qubits.value, pairs.value);
+        answer(rt, c, gates.value, qubits.value, pairs.value)?;
     }
-    step(find(s, at, b'\n'))
+    Ok(step(find(s, at, b'\n')))
 }
 
 // Runs at most 200 cases.
-fn run_all(s: &[u8], bytes: &mut [u8]) {
+fn run_all(rt: &HostRuntime, s: &[u8], bytes: &mut [u8]) -> io::Result<()> {
     let mut at: usize = 0;
     let mut left: usize = 200;
     while 0 < left {
         left -= 1;
         if at < s.len() {
-            at = run(s, at, bytes);
+            at = run(rt, s, at, bytes)?;
         }
     }
+    Ok(())
 }
 
-fn main() {
+fn main(rt: HostRuntime) -> io::Result<()> {
     let mut bytes = [0u8; 131072];
     let mut input = [0u8; 32768];
-    let n = io::read_full(STDIN_FILENO, &mut input);
-    run_all(&input[..n], &mut bytes);
+    let mut stdin = rt.stdin();
+    let n = read_full(&mut stdin, &mut input)?;
+    run_all(&rt, &input[..n], &mut bytes)
 }

@@ -1,7 +1,7 @@
 use Rattle.std.proofs.Common.{◌≢◌, List, ℕ, ◌+◌, ◌-◌, ◌≤◌, ◌<◌, arith, get_or}
 use mathlib.Core.Path.{subst⁻¹}
 use Rattle.laws.specs.Test.{by_eqb}
-use Rattle.test_circuit.proofs.text.find.Goals as goal
+use Rattle.test_circuit.proofs.decimal.find.Goals as goal
 
 -- one place more without the byte
 more : (s : List ℕ) (at i byte : ℕ) → ((k : ℕ) → at ≤ k → k < i → get_or s k 0 ≢ byte) → get_or s i 0 ≢ byte → (k : ℕ) → at ≤ k → k < i + 1 → get_or s k 0 ≢ byte

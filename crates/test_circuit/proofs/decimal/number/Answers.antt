@@ -1,5 +1,5 @@
 use Rattle.std.proofs.Common.{◌-◌, arith}
-use Rattle.test_circuit.proofs.text.number.Goals as goal
+use Rattle.test_circuit.proofs.decimal.number.Goals as goal
 
 pub bounds-s-i : goal.bounds-s-i
 bounds-s-i c = c.is_digit.ensures c.loop-value-test.true
