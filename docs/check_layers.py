@@ -62,7 +62,7 @@ def check_uses(needs, notes):
         files = [p for part in ('src', 'specs', 'proofs') for p in glob.glob('crates/%s/%s/**/*' % (name, part), recursive=True) if p.endswith(('.rt', '.antt'))]
         text = '\n'.join(without_comments(p) for p in files)
         for d in depends:
-            named = re.search(r'(?<![\w:])%s::|Rattle·%s[.·]' % (d, d), text)
+            named = re.search(r'(?<![\w:])%s::|Rattle\.%s\.' % (d, d), text)
             told = '(%s: ' % d in notes[name]
             if not named and not told:
                 wrong.append('crates.txt: %s lists %s and does not use it' % (name, d))
