@@ -14,7 +14,7 @@ pub slice_bounds-put_given-end : goal.slice_bounds-put_given-end
 slice_bounds-put_given-end c = simp length-take (omega arith)
 
 pub returns-in-Model : goal.returns-in-Model
-returns-in-Model c = (printed-as (model-behind _ _ _ _ c.?if1.false c.?enum_told.given.1 c.?lesser.ensures) c.put_model.ensures.0, omega (arith, c.put_model.ensures.1))
+returns-in-Model c = (printed-as (model-behind _ _ _ _ c.if-length-gt-LIMIT.false c.in-Model.is c.lesser-end.ensures) c.put_model.ensures.0, omega (arith, c.put_model.ensures.1))
 
 pub returns-in-Run : goal.returns-in-Run
-returns-in-Run c = (printed-as (run-behind _ _ _ _ c.?if1.false c.?enum-told2.given.1 c.?lesser.ensures) c.put_given.ensures.0, omega (arith, c.put_given.ensures.1))
+returns-in-Run c = (printed-as (run-behind _ _ _ _ c.if-length-gt-LIMIT.false c.in-Run.is c.lesser-end.ensures) c.put_given.ensures.0, omega (arith, c.put_given.ensures.1))

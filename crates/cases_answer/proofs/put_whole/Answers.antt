@@ -2,12 +2,13 @@
 use Rattle.std.proofs.Common.{arith, ◌+◌, ◌≤◌, max, length, Fits, w64}
 use Rattle.cases_answer.proofs.Part.{out-length, both-fit, both-printed}
 use Rattle.cases_answer.proofs.put_whole.Goals as goal
+use Rattle.cases_answer.proofs.put_whole.Goals.{After-slice_known-3-1}
 
 -- how long both are
-whole : (c : goal.After-slice_known-3-1) → c.put_case-line.result + c.put_answer-n.result ≤ max 7837 (length c.put_case-line.new.buf)
+whole : (c : After-slice_known-3-1) → c.put_case-line.result + c.put_answer-n.result ≤ max 7837 (length c.put_case-line.new.buf)
 whole c = both-fit _ _ _ _ _ _ _ _ _ c.put_case-line.ensures.0 c.lesser-from.ensures c.put_answer-n.ensures.0 c.put_case-line.ensures.1 c.put_answer-n.ensures.1
 
-fits : (c : goal.After-slice_known-3-1) → Fits w64 (c.put_case-line.result + c.put_answer-n.result)
+fits : (c : After-slice_known-3-1) → Fits w64 (c.put_case-line.result + c.put_answer-n.result)
 fits c = record { fits = omega (arith, whole c) }
 
 pub overflow_add-result : goal.overflow_add-result

@@ -19,7 +19,7 @@ pub returns-then-k-count : goal.returns-then-k-count
 returns-then-k-count c =
     let h : c.args.k - 1 < c.args.count = omega (arith, c.if-k-count.true, c.if-k-eq0.false) in
     let e : c.args.k - 1 + 1 ≡ c.args.k = omega (arith, c.if-k-eq0.false) in
-    at-constraint c.requires.0 (c.args.k - 1) c.?Named-by.result.0 c.byte1_at-value.result h c.?Named-by.ensures c.byte1_at-value.ensures
+    at-constraint c.requires.0 (c.args.k - 1) c.named_by-qubit.result.0 c.byte1_at-value.result h c.named_by-qubit.ensures c.byte1_at-value.ensures
     ∙ ap (λ (i : ℕ). get_or (fixes_by c.args.circuit.now c.args.qubits.now c.args.next.0) i nothing) e
 
 pub returns-then-k-count-2 : goal.returns-then-k-count-2

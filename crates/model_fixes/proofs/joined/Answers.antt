@@ -7,4 +7,4 @@ pub returns-then-states-gt1 : goal.returns-then-states-gt1
 returns-then-states-gt1 c = joined-many c.requires c.if-states-gt1.true
 
 pub returns : goal.returns
-returns c = c.?Named-by.ensures ∙ joined-one c.requires c.if-states-gt1.false
+returns c = c.named_by.ensures ∙ joined-one c.requires c.if-states-gt1.false

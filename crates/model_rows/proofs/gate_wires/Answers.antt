@@ -50,7 +50,7 @@ returns c =
     let a = c.args in
     let slot : ℕ → ℕ = λ (i : ℕ). get_or a.qubits.now (field a.circuit.now a.g i) 0 - 1 in
     same a.q a.kind
-    c.?Named-by.ensures
+    c.named_by-x1.ensures
     (c.named_by-x2.ensures ∙ ap slot c.second_of-i.ensures.0)
     (c.named_by-x3.ensures ∙ ap slot c.third_of-j.ensures.0)
     c.more_of-up.ensures.0

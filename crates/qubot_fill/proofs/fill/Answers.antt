@@ -10,22 +10,21 @@ number_names-ended-requires c = (c.requires.0, c.requires.1)
 
 pub fill_model-filled-requires : goal.fill_model-filled-requires
 fill_model-filled-requires c =
-    let s = c.?before.before.before in
-    let u = c.?number-names in (
-      s.requires.0,
-      record { qubits = u.auto.1.1.0 ∙ s.requires.1.qubits; origins = u.auto.1.1.1.0 ∙ s.requires.1.origins; roles = u.auto.1.1.1.1.0 ∙ s.requires.1.roles },
-      s.requires.2,
+    let u = c.number_names-ended in (
+      c.requires.0,
+      record { qubits = u.auto.1.1.0 ∙ c.requires.1.qubits; origins = u.auto.1.1.1.0 ∙ c.requires.1.origins; roles = u.auto.1.1.1.1.0 ∙ c.requires.1.roles },
+      c.requires.2,
       u.ensures,
     )
 
 pub shape_of-qubits-then-is_model : goal.shape_of-qubits-then-is_model
-shape_of-qubits-then-is_model c = c.?number-names.auto.1.1.0
+shape_of-qubits-then-is_model c = c.number_names-ended.auto.qubits
 
 pub shape_of-origins-then-is_model : goal.shape_of-origins-then-is_model
-shape_of-origins-then-is_model c = c.?number-names.auto.1.1.1.0
+shape_of-origins-then-is_model c = c.number_names-ended.auto.origins
 
 pub shape_of-roles-then-is_model : goal.shape_of-roles-then-is_model
-shape_of-roles-then-is_model c = c.?number-names.auto.1.1.1.1.0
+shape_of-roles-then-is_model c = c.number_names-ended.auto.roles
 
 pub shape_of-linear-then-is_model : goal.shape_of-linear-then-is_model
 shape_of-linear-then-is_model c = c.fill_model-filled.auto.linear
@@ -47,19 +46,18 @@ shape_of-weights-then-is_model c = c.fill_model-filled.auto.weights
 
 pub returns-then-is_model : goal.returns-then-is_model
 returns-then-is_model c =
-    let s = c.?before.before.before in
-    let u = c.?number-names in
+    let u = c.number_names-ended in
     let v = c.fill_model-filled in
-    kept-as (circuit_of s.args.circuit.now) (lent u.new.1.1.0 u.new.1.1.1.0 u.new.1.1.1.1.0 v.new.1.1.1.1.1.1.1.0 v.new.1.1.1.1.1.1.1.1.0 v.new.1.1.1.1.1.1.1.1.1.0 v.new.1.1.1.1.1.1.1.1.1.1.0 v.new.1.1.1.1.1.1.1.1.1.1.1.0 v.new.1.1.1.1.1.1.1.1.1.1.1.1.0) v.result (sym c.is_model.ensures ∙ c.if-is_model.true) ∙ v.ensures
+    kept-as (circuit_of c.args.circuit.now) (lent u.new.1.1.0 u.new.1.1.1.0 u.new.1.1.1.1.0 v.new.1.1.1.1.1.1.1.0 v.new.1.1.1.1.1.1.1.1.0 v.new.1.1.1.1.1.1.1.1.1.0 v.new.1.1.1.1.1.1.1.1.1.1.0 v.new.1.1.1.1.1.1.1.1.1.1.1.0 v.new.1.1.1.1.1.1.1.1.1.1.1.1.0) v.result (sym c.is_model.ensures ∙ c.if-is_model.true) ∙ v.ensures
 
 pub shape_of-qubits : goal.shape_of-qubits
-shape_of-qubits c = c.clear_names.auto.qubits ∙ c.?number-names.auto.1.1.0
+shape_of-qubits c = c.clear_names.auto.qubits ∙ c.number_names-ended.auto.qubits
 
 pub shape_of-origins : goal.shape_of-origins
-shape_of-origins c = c.clear_names.auto.origins ∙ c.?number-names.auto.1.1.1.0
+shape_of-origins c = c.clear_names.auto.origins ∙ c.number_names-ended.auto.origins
 
 pub shape_of-roles : goal.shape_of-roles
-shape_of-roles c = c.clear_names.auto.roles ∙ c.?number-names.auto.1.1.1.1.0
+shape_of-roles c = c.clear_names.auto.roles ∙ c.number_names-ended.auto.roles
 
 pub shape_of-linear : goal.shape_of-linear
 shape_of-linear c = c.clear_model.auto.linear ∙ c.fill_model-filled.auto.linear
@@ -81,14 +79,13 @@ shape_of-weights c = c.clear_model.auto.weights ∙ c.fill_model-filled.auto.wei
 
 pub returns : goal.returns
 returns c =
-    let s = c.?before.before.before in
-    let u = c.?number-names in
+    let u = c.number_names-ended in
     let v = c.fill_model-filled in
     let n = c.clear_names.ensures in
     let z = c.clear_model.ensures in
-    zeroed-as (circuit_of s.args.circuit.now) (lent u.new.1.1.0 u.new.1.1.1.0 u.new.1.1.1.1.0 v.new.1.1.1.1.1.1.1.0 v.new.1.1.1.1.1.1.1.1.0 v.new.1.1.1.1.1.1.1.1.1.0 v.new.1.1.1.1.1.1.1.1.1.1.0 v.new.1.1.1.1.1.1.1.1.1.1.1.0 v.new.1.1.1.1.1.1.1.1.1.1.1.1.0) v.result (sym c.is_model.ensures ∙ c.if-is_model.false)
-    (all-zero (circuit_of s.args.circuit.now) {q = u.new.1.1.0} {o = u.new.1.1.1.0} {r = u.new.1.1.1.1.0} {l = v.new.1.1.1.1.1.1.1.0} {h = v.new.1.1.1.1.1.1.1.1.0} {w = v.new.1.1.1.1.1.1.1.1.1.0} {f = v.new.1.1.1.1.1.1.1.1.1.1.0} {ks = v.new.1.1.1.1.1.1.1.1.1.1.1.0} {ws = v.new.1.1.1.1.1.1.1.1.1.1.1.1.0}
-    (record { qubits = u.auto.1.1.0 ∙ s.requires.1.qubits; origins = u.auto.1.1.1.0 ∙ s.requires.1.origins; roles = u.auto.1.1.1.1.0 ∙ s.requires.1.roles })
-    (record { linear = v.auto.1.1.1.1.1.1.1.0 ∙ s.requires.2.linear; has_linear = v.auto.1.1.1.1.1.1.1.1.0 ∙ s.requires.2.has_linear; has_row = v.auto.1.1.1.1.1.1.1.1.1.0 ∙ s.requires.2.has_row; fixed = v.auto.1.1.1.1.1.1.1.1.1.1.0 ∙ s.requires.2.fixed; keys = v.auto.1.1.1.1.1.1.1.1.1.1.1.0 ∙ s.requires.2.keys; weights = v.auto.1.1.1.1.1.1.1.1.1.1.1.1.0 ∙ s.requires.2.weights })
+    zeroed-as (circuit_of c.args.circuit.now) (lent u.new.1.1.0 u.new.1.1.1.0 u.new.1.1.1.1.0 v.new.1.1.1.1.1.1.1.0 v.new.1.1.1.1.1.1.1.1.0 v.new.1.1.1.1.1.1.1.1.1.0 v.new.1.1.1.1.1.1.1.1.1.1.0 v.new.1.1.1.1.1.1.1.1.1.1.1.0 v.new.1.1.1.1.1.1.1.1.1.1.1.1.0) v.result (sym c.is_model.ensures ∙ c.if-is_model.false)
+    (all-zero (circuit_of c.args.circuit.now) {q = u.new.1.1.0} {o = u.new.1.1.1.0} {r = u.new.1.1.1.1.0} {l = v.new.1.1.1.1.1.1.1.0} {h = v.new.1.1.1.1.1.1.1.1.0} {w = v.new.1.1.1.1.1.1.1.1.1.0} {f = v.new.1.1.1.1.1.1.1.1.1.1.0} {ks = v.new.1.1.1.1.1.1.1.1.1.1.1.0} {ws = v.new.1.1.1.1.1.1.1.1.1.1.1.1.0}
+    (record { qubits = u.auto.1.1.0 ∙ c.requires.1.qubits; origins = u.auto.1.1.1.0 ∙ c.requires.1.origins; roles = u.auto.1.1.1.1.0 ∙ c.requires.1.roles })
+    (record { linear = v.auto.1.1.1.1.1.1.1.0 ∙ c.requires.2.linear; has_linear = v.auto.1.1.1.1.1.1.1.1.0 ∙ c.requires.2.has_linear; has_row = v.auto.1.1.1.1.1.1.1.1.1.0 ∙ c.requires.2.has_row; fixed = v.auto.1.1.1.1.1.1.1.1.1.1.0 ∙ c.requires.2.fixed; keys = v.auto.1.1.1.1.1.1.1.1.1.1.1.0 ∙ c.requires.2.keys; weights = v.auto.1.1.1.1.1.1.1.1.1.1.1.1.0 ∙ c.requires.2.weights })
     n.0 n.1 n.2 z.0 z.1 z.2 z.3 z.4 z.5)
     ∙ v.ensures

@@ -6,10 +6,6 @@ use Rattle.run_left.specs.Evaluated.{ran_by, evaluated, by-build}
 use Rattle.run_left.specs.Left.{LeftBy, left_by}
 use Rattle.run.proofs.run.Goals as goal
 
--- the function's entry, from after the build
-abbrev start : tie.After-build → tie.Start
-start m = m.before.before.before.before.before.before.before.before.before.before.before.before.before.before.before.before.before.before.before
-
 -- the tables as they were lent
 abbrev entered : tie.Start → Tables
 entered s =
@@ -38,39 +34,35 @@ answered m d e =
     m.build.ensures
     e
 
--- after the build, from the end
-abbrev built : tie.After-slice-known16 → tie.After-build
-built c = c.before.before.before.before.before.before.before.before.before.before.before.before.before.before.before.before.before.before.before.before.before.before.before.before.before.before.before.before.before
-
 pub run_built-requires : goal.run_built-requires
-run_built-requires c = fit c
+run_built-requires c = fit (goal.at.run_built-requires c).After-build-arg-1
 
 pub shape_of-qubits : goal.shape_of-qubits
-shape_of-qubits c = (built c).build.auto.1.1.0
+shape_of-qubits c = c.build-built.auto.qubits
 
 pub shape_of-origins : goal.shape_of-origins
-shape_of-origins c = (built c).build.auto.1.1.1.0
+shape_of-origins c = c.build-built.auto.origins
 
 pub shape_of-roles : goal.shape_of-roles
-shape_of-roles c = (built c).build.auto.1.1.1.1.0
+shape_of-roles c = c.build-built.auto.roles
 
 pub shape_of-linear : goal.shape_of-linear
-shape_of-linear c = (built c).build.auto.1.1.1.1.1.0
+shape_of-linear c = c.build-built.auto.linear
 
 pub shape_of-has_linear : goal.shape_of-has_linear
-shape_of-has_linear c = (built c).build.auto.1.1.1.1.1.1.0
+shape_of-has_linear c = c.build-built.auto.has_linear
 
 pub shape_of-has_row : goal.shape_of-has_row
-shape_of-has_row c = (built c).build.auto.1.1.1.1.1.1.1.0
+shape_of-has_row c = c.build-built.auto.has_row
 
 pub shape_of-fixed : goal.shape_of-fixed
-shape_of-fixed c = (built c).build.auto.1.1.1.1.1.1.1.1.0
+shape_of-fixed c = c.build-built.auto.fixed
 
 pub shape_of-keys : goal.shape_of-keys
-shape_of-keys c = (built c).build.auto.1.1.1.1.1.1.1.1.1.0
+shape_of-keys c = c.build-built.auto.keys
 
 pub shape_of-weights : goal.shape_of-weights
-shape_of-weights c = (built c).build.auto.1.1.1.1.1.1.1.1.1.1.0
+shape_of-weights c = c.build-built.auto.weights
 
 pub returns : goal.returns
-returns c = answered (built c) _ c.run_built.ensures
+returns c = answered (goal.at.returns c).After-build-built _ c.run_built.ensures

@@ -26,7 +26,7 @@ run_left-requires c = c.requires _ c.in-Done.is
 pub returns-in-Refused : goal.returns-in-Refused
 returns-in-Refused c =
     ap (λ (y : Run). done y c.args.values.now) c.refused.ensures
-    ∙ same c _ c.in-Refused.is
+    ∙ same (goal.at.returns-in-Refused c).Start _ c.in-Refused.is
 
 pub returns-in-Done : goal.returns-in-Done
-returns-in-Done c = c.run_left.ensures ∙ same c _ c.in-Done.is
+returns-in-Done c = c.run_left.ensures ∙ same (goal.at.returns-in-Done c).Start _ c.in-Done.is

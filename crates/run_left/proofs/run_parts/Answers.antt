@@ -19,53 +19,51 @@ lent_of s =
     s.args.weights.now
 
 pub overflow_mul-n : goal.overflow_mul-n
-overflow_mul-n c = omega (arith, few c)
+overflow_mul-n c = omega (arith, few (goal.at.overflow_mul-n c).Start)
 
 pub overflow_add-n : goal.overflow_add-n
-overflow_add-n c = omega (arith, few c)
+overflow_add-n c = omega (arith, few (goal.at.overflow_add-n c).Start)
 
 pub overflow_add-n-2 : goal.overflow_add-n-2
-overflow_add-n-2 c = omega (arith, few c)
+overflow_add-n-2 c = omega (arith, few (goal.at.overflow_add-n-2 c).Start)
 
 pub overflow_add-from : goal.overflow_add-from
 overflow_add-from c = omega (arith, from-few c.requires.0 c.args.k c.requires.1)
 
 pub slice_bounds-run_on-end-3 : goal.slice_bounds-run_on-end-3
-slice_bounds-run_on-end-3 c = let s = c.?before in gates-part s.requires.0 s.args.k s.requires.1
+slice_bounds-run_on-end-3 c = gates-part c.requires.0 c.args.k c.requires.1
 
 pub slice_bounds-run_on-end-4 : goal.slice_bounds-run_on-end-4
-slice_bounds-run_on-end-4 c = let s = c.?before.before in names-part s.requires.0 s.args.k s.requires.1 s.args.origins.now s.requires.0.origins
+slice_bounds-run_on-end-4 c = names-part c.requires.0 c.args.k c.requires.1 c.args.origins.now c.requires.0.origins
 
 pub slice_bounds-run_on-end-5 : goal.slice_bounds-run_on-end-5
-slice_bounds-run_on-end-5 c = let s = c.?before.before.before in names-part s.requires.0 s.args.k s.requires.1 s.args.roles.now s.requires.0.roles
+slice_bounds-run_on-end-5 c = names-part c.requires.0 c.args.k c.requires.1 c.args.roles.now c.requires.0.roles
 
 pub slice_bounds-run_on-end-6 : goal.slice_bounds-run_on-end-6
-slice_bounds-run_on-end-6 c = let s = c.?before.before.before.before in sym (length-take-le s.args.f.names s.args.linear.now (omega (arith, s.requires.0.names, s.requires.0.linear)))
+slice_bounds-run_on-end-6 c = sym (length-take-le c.args.f.names c.args.linear.now (omega (arith, c.requires.0.names, c.requires.0.linear)))
 
 pub slice_bounds-run_on-end-7 : goal.slice_bounds-run_on-end-7
-slice_bounds-run_on-end-7 c = let s = c.?before.before.before.before.before in names-part s.requires.0 s.args.k s.requires.1 s.args.has-linear.now s.requires.0.has_linear
+slice_bounds-run_on-end-7 c = names-part c.requires.0 c.args.k c.requires.1 c.args.has-linear.now c.requires.0.has_linear
 
 pub slice_bounds-run_on-end-8 : goal.slice_bounds-run_on-end-8
-slice_bounds-run_on-end-8 c = let s = c.?before.before.before.before.before.before in names-part s.requires.0 s.args.k s.requires.1 s.args.has-row.now s.requires.0.has_row
+slice_bounds-run_on-end-8 c = names-part c.requires.0 c.args.k c.requires.1 c.args.has-row.now c.requires.0.has_row
 
 pub slice_bounds-run_on-end-9 : goal.slice_bounds-run_on-end-9
-slice_bounds-run_on-end-9 c = let s = c.?before.before.before.before.before.before.before in names-part s.requires.0 s.args.k s.requires.1 s.args.fixed.now s.requires.0.fixed
+slice_bounds-run_on-end-9 c = names-part c.requires.0 c.args.k c.requires.1 c.args.fixed.now c.requires.0.fixed
 
 pub slice_bounds-run_on-end-10 : goal.slice_bounds-run_on-end-10
-slice_bounds-run_on-end-10 c = let s = c.?before.before.before.before.before.before.before.before in sym (length-take-le s.args.f.pairs s.args.keys.now s.requires.0.keys)
+slice_bounds-run_on-end-10 c = sym (length-take-le c.args.f.pairs c.args.keys.now c.requires.0.keys)
 
 pub slice_bounds-run_on-end-11 : goal.slice_bounds-run_on-end-11
-slice_bounds-run_on-end-11 c = let s = c.?before.before.before.before.before.before.before.before.before in sym (length-take-le s.args.f.pairs s.args.weights.now s.requires.0.weights)
+slice_bounds-run_on-end-11 c = sym (length-take-le c.args.f.pairs c.args.weights.now c.requires.0.weights)
 
 pub run_on-requires : goal.run_on-requires
 run_on-requires c =
-    let s = c.?before.before.before.before.before.before.before.before.before in
-    rw (s.requires.2, s.requires.3)
-    (ready {b = s.args.circuit.now} {u = lent_of s} {f = s.args.f} s.requires.0 s.args.k s.requires.1 _ _ (names-counted _ s.args.k s.requires.1) (to_z-of_z (fits-abs w64 _ s.requires.0.offset)))
+    rw (c.requires.2, c.requires.3)
+    (ready {b = c.args.circuit.now} {u = lent_of (goal.at.run_on-requires c).Start} {f = c.args.f} c.requires.0 c.args.k c.requires.1 _ _ (names-counted _ c.args.k c.requires.1) (to_z-of_z (fits-abs w64 _ c.requires.0.offset)))
 
 pub returns : goal.returns
 returns c =
-    let s = c.?before.before.before.before.before.before.before.before.before in
     c.run_on.ensures
-    ∙ runs_as {b = s.args.circuit.now} {u = lent_of s} {f = s.args.f} s.requires.0 s.args.k s.requires.1 _ _ (names-counted _ s.args.k s.requires.1) (to_z-of_z (fits-abs w64 _ s.requires.0.offset)) s.args.inputs.now
-    s.args.values.now
+    ∙ runs_as {b = c.args.circuit.now} {u = lent_of (goal.at.returns c).Start} {f = c.args.f} c.requires.0 c.args.k c.requires.1 _ _ (names-counted _ c.args.k c.requires.1) (to_z-of_z (fits-abs w64 _ c.requires.0.offset)) c.args.inputs.now
+    c.args.values.now

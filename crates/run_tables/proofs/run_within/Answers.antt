@@ -12,10 +12,10 @@ pub find_values-w-requires : goal.find_values-w-requires
 find_values-w-requires c = let r = c.requires.0 in let l = c.fill_u8.auto.t in (record { slots = λ g. omega (arith, r.ready.formed.slots g, c.requires.1, l); laid = r.inputs-laid; gates = r.input-gates; count = c.if-inputs-count.false ∙ r.count }, record { ready = r.ready; values = omega (arith, c.requires.1, l) }, r.bads, r.modeled.flags-named, r.modeled.rows_named, r.modeled.stacked, r.modeled.used)
 
 pub answer_at-requires : goal.answer_at-requires
-answer_at-requires c = let s = c.?before in let r = s.requires.0 in let m = r.modeled in (record { values = c.?find-values.auto.1.1.1.1.1.1.1.0 ∙ c.?fill-u8.auto.0 ∙ sym s.requires.1 ∙ sym m.linear-there; even = m.even; used = m.used; inside = rw m.linear-there m.inside; small = m.small }, omega (arith, r.ready.laid.bads-there, r.bads), r.few-bads)
+answer_at-requires c = let r = c.requires.0 in let m = r.modeled in (record { values = c.find_values-w.auto.values ∙ c.fill_u8.auto.t ∙ sym c.requires.1 ∙ sym m.linear-there; even = m.even; used = m.used; inside = rw m.linear-there m.inside; small = m.small }, omega (arith, r.ready.laid.bads-there, r.bads), r.few-bads)
 
 pub returns-in-On : goal.returns-in-On
-returns-in-On c = let s = c.?before in ended s.args.circuit.now (mk s.args.qubits.now s.args.origins.now s.args.roles.now s.args.names) s.args.form s.args.t.offset s.args.linear.now s.args.flags.now s.args.rows.now s.args.fixed.now s.args.keys.now s.args.weights.now s.args.t.count s.requires.0.modeled.even s.args.inputs.now s.requires.0.count c.?if1.false s.args.bads s.args.total s.requires.0.ready.laid.bads s.requires.0.bads (c.?fill-u8.ensures ∙ ap (λ (n : ℕ). replicate n 2) (sym s.requires.1)) (rw c.?enum_told.given.1 at c.?find-values.ensures) (c.answer_at.ensures _ _ _)
+returns-in-On c = ended c.args.circuit.now (mk c.args.qubits.now c.args.origins.now c.args.roles.now c.args.names) c.args.form c.args.t.offset c.args.linear.now c.args.flags.now c.args.rows.now c.args.fixed.now c.args.keys.now c.args.weights.now c.args.t.count c.requires.0.modeled.even c.args.inputs.now c.requires.0.count c.if-inputs-count.false c.args.bads c.args.total c.requires.0.ready.laid.bads c.requires.0.bads (c.fill_u8.ensures ∙ ap (λ (n : ℕ). replicate n 2) (sym c.requires.1)) (rw c.in-On.is at c.find_values-w.ensures) (c.answer_at.ensures _ _ _)
 
 pub returns-in-Stopped : goal.returns-in-Stopped
 returns-in-Stopped c = halted c.args.circuit.now (mk c.args.qubits.now c.args.origins.now c.args.roles.now c.args.names) c.args.form c.args.t.offset c.args.linear.now c.args.flags.now c.args.rows.now c.args.fixed.now c.args.keys.now c.args.weights.now c.args.t.count c.requires.0.modeled.even c.args.inputs.now c.requires.0.count c.if-inputs-count.false _ (c.fill_u8.ensures ∙ ap (λ (n : ℕ). replicate n 2) (sym c.requires.1)) (rw c.in-Stopped.is at c.find_values-w.ensures) (c.refused-in-Stopped.ensures ∙ ap refusal c.refusal_of.ensures) (c.fill_u8-in-Stopped.ensures ∙ ap (λ (n : ℕ). replicate n 2) (c.find_values-w.auto.values ∙ c.fill_u8.auto.t ∙ sym c.requires.1))

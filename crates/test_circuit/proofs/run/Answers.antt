@@ -3,4 +3,4 @@ use Rattle.std.proofs.Common.{sym, length-take-le}
 use Rattle.test_circuit.proofs.run.Goals as goal
 
 pub slice_bounds-c-end-then-len-bytes : goal.slice_bounds-c-end-then-len-bytes
-slice_bounds-c-end-then-len-bytes c = sym (length-take-le _ _ c.?if3.true)
+slice_bounds-c-end-then-len-bytes c = sym (length-take-le _ _ c.if-len-bytes.true)

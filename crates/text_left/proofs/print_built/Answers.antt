@@ -19,7 +19,7 @@ pub print_left-requires : goal.print_left-requires
 print_left-requires c = c.requires _ c.in-Done.is
 
 pub returns-in-Refused : goal.returns-in-Refused
-returns-in-Refused c = same c _ c.in-Refused.is
+returns-in-Refused c = same (goal.at.returns-in-Refused c).Start _ c.in-Refused.is
 
 pub returns-in-Done : goal.returns-in-Done
-returns-in-Done c = c.print_left.ensures ∙ same c _ c.in-Done.is
+returns-in-Done c = c.print_left.ensures ∙ same (goal.at.returns-in-Done c).Start _ c.in-Done.is

@@ -7,15 +7,12 @@ use Rattle.qubot_left.specs.Left.{names-counted}
 use Rattle.text_left.specs.Dumped.{text_in, too_short, long-enough, text-as}
 use Rattle.text_left.specs.Left.{printable, names-few}
 use Rattle.text_left.proofs.print_left.Goals as goal
+use Rattle.text_left.proofs.print_left.Goals.{After-counts_of-counts, After-text_length-length}
 
 -- the counts are small
-few : (c : goal.After-counts_of-counts) → 3 * c.?Counts-of.result.gates + c.?Counts-of.result.bad_states + 1 ≤ 65536
+few : (c : After-counts_of-counts) → 3 * c.counts_of-counts.result.gates + c.counts_of-counts.result.bad_states + 1 ≤ 65536
 few c =
-    names-few c.?Counts-of.result c.requires c.?Counts-of.ensures
-
--- the function's entry
-abbrev at-start : tie.After-text-length → tie.Start
-at-start c = c.before.before.before.before.before.before.before.before.before.before.before.before.before
+    names-few c.counts_of-counts.result c.requires c.counts_of-counts.ensures
 
 -- the text
 abbrev tables_of : tie.Start → Tables
@@ -26,35 +23,33 @@ abbrev the_text : tie.Start → List ℕ
 the_text s = text_in s.args.circuit.now (tables_of s) s.args.f
 
 -- the length that the first pass told is the text's
-told : (c : goal.After-text_length-length) → c.text_length-length.result ≡ length (the_text (at-start c))
+told : (c : After-text_length-length) → c.text_length-length.result ≡ length (the_text c)
 told c =
     c.text_length-length.ensures
-    ∙ ap length (text-as c.args.circuit.now (tables_of c) c.args.f _ _ (names-counted _ _ c.?Counts-of.ensures) (to_z-of_z (fits-abs w64 _ c.requires.offset)))
+    ∙ ap length (text-as c.args.circuit.now (tables_of c) c.args.f _ _ (names-counted _ _ c.counts_of-counts.ensures) (to_z-of_z (fits-abs w64 _ c.requires.offset)))
 
 pub overflow_mul-n : goal.overflow_mul-n
-overflow_mul-n c = omega (arith, few c)
+overflow_mul-n c = omega (arith, few (goal.at.overflow_mul-n c).After-counts_of-counts)
 
 pub overflow_add-n : goal.overflow_add-n
-overflow_add-n c = omega (arith, few c)
+overflow_add-n c = omega (arith, few (goal.at.overflow_add-n c).After-counts_of-counts)
 
 pub overflow_add-n-2 : goal.overflow_add-n-2
-overflow_add-n-2 c = omega (arith, few c)
+overflow_add-n-2 c = omega (arith, few (goal.at.overflow_add-n-2 c).After-counts_of-counts)
 
 pub text_length-length-requires : goal.text_length-length-requires
-text_length-length-requires c = printable c.requires c.?Counts-of.ensures c.input_starts-starts.ensures (names-counted _ _ c.?Counts-of.ensures)
+text_length-length-requires c = printable c.requires c.counts_of-counts.ensures c.input_starts-starts.ensures (names-counted _ _ c.counts_of-counts.ensures)
 
 pub returns-then-buf-length : goal.returns-then-buf-length
-returns-then-buf-length c =
-    let start = at-start c in
-    too_short (the_text start) start.args.buf.now c.text_length-length.result (told c) c.if-buf-length.true
+returns-then-buf-length c = too_short (the_text (goal.at.returns-then-buf-length c).Start) c.args.buf.now c.text_length-length.result (told (goal.at.returns-then-buf-length c).After-text_length-length) c.if-buf-length.true
 
 pub print_model-requires : goal.print_model-requires
-print_model-requires c = printable c.requires c.?Counts-of.ensures c.input_starts-starts.ensures (names-counted _ _ c.?Counts-of.ensures)
+print_model-requires c = printable c.requires c.counts_of-counts.ensures c.input_starts-starts.ensures (names-counted _ _ c.counts_of-counts.ensures)
 
 pub returns : goal.returns
 returns c =
-    let same = text-as c.args.circuit.now (tables_of c) c.args.f _ _ (names-counted _ _ c.?Counts-of.ensures) (to_z-of_z (fits-abs w64 _ c.requires.offset)) in
-    let fits : length (the_text (at-start c)) ≤ length (at-start c).args.buf.now =
-    omega (arith, told c, c.if-buf-length.false) in
+    let same = text-as c.args.circuit.now (tables_of (goal.at.returns c).Start) c.args.f _ _ (names-counted _ _ c.counts_of-counts.ensures) (to_z-of_z (fits-abs w64 _ c.requires.offset)) in
+    let fits : length (the_text (goal.at.returns c).Start) ≤ length c.args.buf.now =
+    omega (arith, told (goal.at.returns c).After-text_length-length, c.if-buf-length.false) in
     let enough : c.text_length-length.result ≤ length c.args.buf.now = omega (arith, c.if-buf-length.false) in
-    long-enough (the_text c) c.args.buf.now _ c.text_length-length.result (told c) enough (printed-whole (printed-as (sym same) c.print_model.ensures) fits)
+    long-enough (the_text (goal.at.returns c).Start) c.args.buf.now _ c.text_length-length.result (told (goal.at.returns c).After-text_length-length) enough (printed-whole (printed-as (sym same) c.print_model.ensures) fits)

@@ -5,4 +5,4 @@ use Rattle.program_answers.proofs.reading.read_case.Goals as goal
 pub returns : goal.returns
 returns c =
     let asked = c.args.asked in
-    λ e few. omega (arith, eqb-true c.?read_Some.result (asked.length + 8 * asked.values) e, c.?read_Some.ensures.1)
+    λ e few. omega (arith, eqb-true c.read_some.result (asked.length + 8 * asked.values) e, c.read_some.ensures.1)
