@@ -1,6 +1,7 @@
 // The checks 1 to 7, in number order, each over the whole input: the crates `circuit_sizes` 2, 6 and 7, `circuit_form` 3, and `circuit_references` 4 and 5.
 // What each function answers is a definition of the crate `circuit`: see its specs/Check.antt.
 #![tactic(auto)]
+
 ghost use Rattle.std.specs.Prelude.{◌≡◌, false};
 ghost use Rattle.circuit.specs.Starts.{Regular};
 ghost use Rattle.circuit.specs.Check.{counts_of, too_many, roomed, named, checked};

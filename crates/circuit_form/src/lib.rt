@@ -1,5 +1,6 @@
 // Check 3: the first record that breaks the form, in one pass. Each function's definition is in specs/Form.antt of the crate `circuit`, or in its specs/Passing.antt for what is kept of the records passed.
 #![tactic(auto)]
+
 ghost use Rattle.std.specs.Prelude.{◌≡◌, false, ◌+◌, ◌*◌, ◌≤◌, ◌<◌, length};
 ghost use Rattle.circuit.specs.Form.{order_of, order_at, used_fields, unused_set, first_broken};
 ghost use Rattle.circuit.specs.Passing.{bad_in, run_after, breaks_by, after};

@@ -1,5 +1,6 @@
 // The lists, and the inputs: where each one's bits stand, and the largest gate of each list, each found once in one pass. See specs/Starts.antt and specs/Tops.antt of the crate `circuit`.
 #![tactic(auto)]
+
 ghost use Rattle.std.specs.Prelude.{◌≡◌, max};
 ghost use Rattle.circuit.specs.File.{count_of};
 ghost use Rattle.circuit.specs.declared.Found.TheVariants.{Nowhere};

@@ -1,5 +1,6 @@
 // How many records, lists and inputs there are, and the limits of checks 2 and 7. See specs/Check.antt of the crate `circuit`.
 #![tactic(auto)]
+
 ghost use Rattle.std.specs.Prelude.{◌≡◌, false};
 ghost use Rattle.circuit.specs.File.{records, count_of};
 ghost use Rattle.circuit.specs.Meaning.{numbers_to, how_many};

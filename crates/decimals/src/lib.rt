@@ -1,5 +1,6 @@
 // Reading a value as a user writes it, as Rust's `i64::from_str` does: an optional sign, then digits. What is read is a definition of specs/.
 #![tactic(auto)]
+
 ghost use Rattle.std.specs.Prelude.{◌≡◌, ◌^◌, ◌≤◌, pos, neg_ℤ};
 ghost use Rattle.decimals.specs.Value.{digits_up_to, positive_of, negative_of, value_of};
 

@@ -1,7 +1,7 @@
 -- The plain mathematics of the cycle of calls: what its needs ask, said of states and not of places in the code. What a fact shows is implicit in each, so
 -- that a need is a short application. b are the circuit's bytes and l the lists' starts.
 --     from-process, had       the two returns of `visit`
---     Stage, then             a gate in `process`: from the state s, whose gate g is to be processed, the tables have come to `have`, which should be `want`
+--     Stage, entered, then    a gate in `process`: from the state s, whose gate g is to be processed, the tables have come to `have`, which should be `want`
 --     name-asked, list-first, list-second, divided      `process` at a division
 --     operands-asked, finish-asked, finished            `process` at any other gate
 --     answer                  what `process` returns
@@ -50,6 +50,11 @@ pub record Stage (b l : List ℕ) (g : ℕ) (d : Bool) (m : ℕ) (s want have : 
 
 pub then : {b l : List ℕ} {g : ℕ} {d : Bool} {m : ℕ} {s w h want have : State} → Stage b l g d m s w h → have ≡ want → Stage b l g d m s want have
 then z e = record { ready = z.ready; fresh = z.fresh; division = z.division; measure = z.measure; same = e }
+
+-- where `process` starts: `act` is what the gate does, and d whether that is a division, as the code read them
+pub entered : {b l : List ℕ} {g m : ℕ} {act : Act} {c d : Bool} {s : State} → Ready b l s → Fresh b g s → act ≡ act_of (kind_at b g) → c ≡ is_division act
+    → c ≡ d → 3 * g + 1 ≡ m → Stage b l g d m s s s
+entered r f a e d m = record { ready = r; fresh = f; division = cc; measure = m; same = refl }
 
 module _ {b l : List ℕ} {g m : ℕ} {d : Bool} {s w h : State} (z : Stage b l g d m s w h) where
   fine : (x : ℕ) → x < g → Visits (gates_in b) (visit_of (gates_in b)) x

@@ -1,3 +1,4 @@
 -- What the proofs of several functions use.
 mod Ways
 pub mod Cycle
+pub mod Reached

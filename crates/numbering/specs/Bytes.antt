@@ -1,6 +1,6 @@
 -- An accepted file is ready to be numbered: its circuit is well formed, and its gates, lists and roots lie in the bytes where the code reads them.
 -- Assumes nothing.
-use Rattle.std.specs.Prelude.{◌≡◌, Bool, ◌&&◌, ◌||◌, ℕ, zero, suc, ◌+◌, ◌*◌, ◌-◌, ◌≤◌, ◌<◌, eqb, ltb, get_or}
+use Rattle.std.specs.Prelude.{◌≡◌, Bool, ◌&&◌, ◌||◌, ℕ, zero, suc, ◌+◌, ◌*◌, ◌≤◌, ◌<◌, eqb, ltb, get_or}
 use Rattle.std.proofs.Math.Path.{refl, sym, ap, ap₂}
 use Rattle.std.proofs.Common.{◌∙◌, subst, arith, add-one, ltb-true, lt-ltb, lit<}
 use Rattle.std.proofs.Math.Bool.{true, false}
@@ -20,7 +20,7 @@ use Rattle.circuit.specs.Marks.{gates-within}
 use Rattle.circuit.specs.Accepted.{Sound, gate-at, gate-count, bad-count, ListsFit, DivisionFits, WellFormed, well-formed}
 use Rattle.energy.specs.Numbering.{Numbering}
 use Rattle.numbering.specs.State.{State}
-use Rattle.numbering.specs.Numbered.{roots, numbered, number, named_of}
+use Rattle.numbering.specs.Numbered.{numbered, number, named_of}
 use Rattle.numbering.specs.Finished.{Formed, finished, numbering}
 use Rattle.numbering.specs.Read.{act_of, is_division, gates_from, gates_in, ListAt, Laid, RootsAt, Prepared}
 

@@ -2,6 +2,7 @@
 // `walk` is the recursion, which the crate `numbering_roots` starts; what one gate does with names is the crate `numbering_gate`.
 // What each function leaves in the tables is a definition of specs/, which follow 01 sentence by sentence.
 #![tactic(auto)]
+
 use units::{Gate, Qubit};
 
 pub mod walk;

@@ -1,6 +1,7 @@
 // What one gate does with names, outside the recursion: `kinds` says it of each kind, `names` gives the names.
 // What each function leaves in the tables is a definition of specs/, which follow 01 sentence by sentence.
 #![tactic(auto)]
+
 pub mod kinds;
 pub mod names;
 

@@ -10,16 +10,19 @@ use lib.Dec.{eqb}
 use lib.IntN.{ℤ, pos, nat_abs, ◌+ℤ◌, +ℤ_assoc, +ℤ_idl, +ℤ_idr}
 use lib.ListN.{length, take, drop, get_or, drop_of_length-le}
 use lib.Seq.{slice, slice-cons, slice_empty, drop-cons}
-use Rattle.laws.specs.Abs.{abs-add}
+use mir.Syntax.{w64}
+use mir.Val.{SFits}
+use Rattle.laws.specs.Abs.{abs-add, fits-abs}
 use Rattle.units.specs.declared.Form.{Form}
 use Rattle.units.specs.declared.Form.TheVariants.{Binary, Ising}
 use Rattle.energy.specs.Plain.{Setting}
-use Rattle.energy.specs.Model.{Entry, Inside, low, high, counted, linear_by, pairs_by, sizes}
-use Rattle.energy.specs.Mass.{abs-gated, abs-signed}
+use Rattle.energy.specs.Model.{Entry, Inside, low, high, counted, linear_by, pairs_by, energy_by, energy_in, sizes}
+use Rattle.energy.specs.Mass.{abs-gated, abs-signed, linear-size, pairs-size}
 use Rattle.store_pairs.specs.Store.{zip, none, load}
 use Rattle.store_pairs.proofs.Tables.{length-zip, zip-at}
-use Rattle.store.specs.Tables.{one_at}
-use Rattle.store.specs.Evaluating.{weight_in}
+use Rattle.store.specs.declared.Totals.{Totals}
+use Rattle.store.specs.Tables.{tables, model_of, one_at}
+use Rattle.store.specs.Evaluating.{weight_in, joint_in, energy-in, Evaluating}
 
 -- ---- the count
 
@@ -192,3 +195,26 @@ join-done {form} {j} {σ} {k} {T} {n} {e} {i} m done =
     sym (+ℤ_idr e)
     ∙ ap (λ (z : ℤ). e +ℤ z) (sym (ap (pairs_by (weight_in form) j σ) (ap (λ (i : ℕ). slice i n T) at ∙ slice_empty n T) ∙ pairs-nil (weight_in form) j σ))
     ∙ m.whole
+
+-- ---- the two sums, and the offset with them, are in range, and are the energy
+
+pub offset-fits : {l : List ℤ} {ks : List ℕ} {ws : List ℤ} {t : Totals} {vs : List ℕ} → Evaluating l ks ws t vs → SFits w64 t.offset
+offset-fits {l} {ks} {ws} {t} {vs} r = fits-abs w64 _ (omega (arith, r.small))
+
+module _ (form : Form) (σ : Setting) {l : List ℤ} {ks : List ℕ} {ws : List ℤ} {t : Totals} {vs : List ℕ} (r : Evaluating l ks ws t vs) {a b : ℤ}
+    (p : a ≡ linear_by (weight_in form) σ 0 l) (q : b ≡ pairs_by (weight_in form) (joint_in form) σ (take t.count (zip ks ws))) where
+  a_small : nat_abs a ≤ sizes l
+  a_small = omega (arith, ap nat_abs p, linear-size (weight_in form) (weight-small form) σ 0 l)
+
+  b-small : nat_abs b ≤ load (take t.count (zip ks ws))
+  b-small = omega (arith, ap nat_abs q, pairs-size (weight_in form) (weight-small form) σ (joint_in form) (take t.count (zip ks ws)))
+
+  pub sum-fits : SFits w64 (a +ℤ b)
+  sum-fits = fits-abs w64 _ (omega (arith, abs-add a b, a_small, b-small, r.small))
+
+  pub all-fits : SFits w64 (t.offset +ℤ (a +ℤ b))
+  all-fits = fits-abs w64 _ (omega (arith, abs-add a b, abs-add t.offset (a +ℤ b), a_small, b-small, r.small))
+
+  pub all-is : (h rs f : List ℕ) → t.offset +ℤ (a +ℤ b) ≡ energy_in form σ (model_of (tables t.offset l h rs f ks ws t.count))
+  unfolding energy_by
+  all-is h rs f = ap₂ (λ (x y : ℤ). t.offset +ℤ (x +ℤ y)) p q ∙ sym (energy-in form σ (model_of (tables t.offset l h rs f ks ws t.count)))

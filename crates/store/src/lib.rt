@@ -3,6 +3,7 @@
 // `fixed` (0 not fixed, 1 false, 2 true), and the two pair tables `keys` and `weights`, of which the first `count` entries are in use.
 // The offset and the count go by value, as `Totals`. `specs/Tables.antt` says which model the tables hold.
 #![tactic(auto)]
+
 pub mod count;
 pub mod evaluate;
 pub mod linear;

@@ -1,5 +1,6 @@
 // The lines of the model text, and their words.
 #![tactic(auto)]
+
 ghost use Rattle.std.specs.Prelude.{cond, [], ◌∷◌, ◌++◌, ◌≡◌, ◌-◌, ◌≤◌, ◌<◌, length, get_or};
 ghost use Rattle.text.specs.Paste.{Printed, Room};
 ghost use Rattle.text.specs.Text.{entry_text, pair_text, bad_text, qubit_text, end_text, value_byte, fixed_byte, fixed_by, shown, word, comma};

@@ -1,4 +1,4 @@
-use Rattle.std.proofs.Common.{◌-◌, arith}
+use Rattle.std.proofs.Common.{arith}
 use Rattle.circuit_lists.proofs.Topping.{topping-start, list-small, turn-bit, turn-other, topping-done}
 use Rattle.circuit_lists.proofs.list_tops.Goals as goal
 

@@ -1,4 +1,4 @@
-use Rattle.std.proofs.Common.{◌-◌, arith}
+use Rattle.std.proofs.Common.{arith}
 use Rattle.circuit.specs.Starts.{few-records, ends-small}
 use Rattle.circuit_lists.proofs.Starting.{starting-start, next_small, turn-new, turn-same, starting-done}
 use Rattle.circuit_lists.proofs.starts_of.Goals as goal

@@ -1,4 +1,4 @@
-use Rattle.std.proofs.Common.{◌-◌, ◌≡◌, refl, sym, ap, ◌∙◌, arith}
+use Rattle.std.proofs.Common.{◌≡◌, refl, sym, ap, ◌∙◌, arith}
 use Rattle.circuit.specs.File.{is_kind, records as records_of}
 use Rattle.circuit.specs.Count.{count_before, counted-more, counted_same, count-le, length-those}
 use Rattle.circuit_sizes.proofs.count_kinds.Goals as goal

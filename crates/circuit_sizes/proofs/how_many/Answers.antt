@@ -1,4 +1,4 @@
-use Rattle.std.proofs.Common.{◌-◌, ◌+◌, ◌≡◌, refl, sym, ap, ◌∙◌, arith}
+use Rattle.std.proofs.Common.{◌+◌, ◌≡◌, refl, sym, ap, ◌∙◌, arith}
 use Rattle.circuit.specs.File.{records as records_of}
 use Rattle.circuit.specs.Meaning.{numbers_to, how_many, many-bit, many-other}
 use Rattle.circuit_sizes.proofs.how_many.Goals as goal

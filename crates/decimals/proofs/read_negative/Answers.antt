@@ -9,7 +9,7 @@ negated-requires c = told-bound (2 ^ 63) _ _ (sym c.read_digits-digits.ensures �
 
 pub returns-in-Number : goal.returns-in-Number
 returns-in-Number c =
-    let fits : SFits w64 c.negated.result = record { sfits = c.negated.type-inv } in
+    let fits : SFits w64 c.negated.result = record { sfits = c.negated.type_inv } in
     ap Is (to_z-of_z fits ∙ c.negated.ensures) ∙ negative-is _ _ (sym c.read_digits-digits.ensures ∙ c.in-Number.is)
 
 pub returns-in-Not : goal.returns-in-Not

@@ -1,4 +1,4 @@
-use Rattle.std.proofs.Common.{◌-◌, sym, ◌∙◌, ap₂, ◌||◌, arith}
+use Rattle.std.proofs.Common.{sym, ◌∙◌, ap₂, ◌||◌, arith}
 use Rattle.circuit.specs.File.{records as records_of}
 use Rattle.circuit.specs.Search.{stop, go_on, end, all_left}
 use Rattle.circuit.specs.Partner.{wrong, first_wrong}

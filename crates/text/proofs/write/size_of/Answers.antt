@@ -49,7 +49,7 @@ pub overflow_add-less : goal.overflow_add-less
 overflow_add-less c = (below c).raised
 
 pub overflow_sub-less : goal.overflow_sub-less
-overflow_sub-less c = (below c).ranges
+overflow_sub-less c = (below c).fits
 
 pub overflow_cast-result : goal.overflow_cast-result
 overflow_cast-result c = subst (λ (z : ℤ). T (non_neg z) × Fits w64 (nat_abs z)) (sym (below c).is) (tt, record { fits = omega (arith, (below c).small) })
