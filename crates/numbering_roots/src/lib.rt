@@ -1,5 +1,6 @@
 // The whole numbering: bad states in order, then constraints, and then the joins' names.
 #![tactic(auto)]
+
 ghost use Rattle.std.specs.Prelude.{◌≡◌, ℕ, ◌+◌, ◌*◌, ◌-◌, ◌≤◌, ◌<◌, List, length};
 ghost use Rattle.energy.specs.Circuit.{AllBelow};
 ghost use Rattle.circuit.specs.Meaning.{circuit_of};

@@ -1,5 +1,6 @@
 // The rule of a qubit, read off its origin and role and the circuit; it is not stored. Its value from those that it reads; which those are is the crate `run_operands`.
 #![tactic(auto)]
+
 use circuit::GateKind;
 use units::Qubit;
 

@@ -1,5 +1,6 @@
 // Placing penalties into the coefficient store: each goes by value to its qubits, its pairs to the end of a log, which the crate `store_settle` settles once.
 #![tactic(auto)]
+
 use units::Qubit;
 
 pub mod place;

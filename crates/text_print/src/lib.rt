@@ -1,6 +1,7 @@
 // Printing the model text from finished tables into a lent buffer: the crate `text_entries` has the lines, `section` the parts of the text.
 // Each function prints a text that a definition of the crate `text` gives, from a place on, and answers the place after it.
 #![tactic(auto)]
+
 ghost use mathlib.Core.List.{map, zip};
 ghost use Rattle.std.specs.Prelude.{◌≡◌, ◌≤◌, length, take};
 ghost use Rattle.circuit.specs.Meaning.{circuit_of};

@@ -1,6 +1,5 @@
-use Rattle.std.proofs.Common.{◌+◌, ◌≡◌, refl, sym, ap, ◌∙◌, arith}
-use Rattle.circuit.specs.File.{records as records_of}
-use Rattle.circuit.specs.Meaning.{numbers_to, how_many, many-bit, many-other}
+use Rattle.std.proofs.Common.{◌+◌, refl, sym, ap, ◌∙◌, arith}
+use Rattle.circuit.specs.Meaning.{numbers_to, many-bit, many-other}
 use Rattle.circuit_sizes.proofs.how_many.Goals as goal
 
 pub loop-n-init : goal.loop-n-init
@@ -12,9 +11,3 @@ loop-n-preserved-then-byte-kind c = (omega arith, rw (many-bit _ _ _ (sym c.kind
 
 pub loop-n-preserved : goal.loop-n-preserved
 loop-n-preserved c = (omega arith, rw (many-other _ _ _ (λ e. c.if-byte-kind.false (c.kind_byte_at-byte.ensures ∙ e))) c.loop-n.invariant.1)
-
-pub returns : goal.returns
-returns c =
-    let a = c.args in
-    let e : c.loop-n.n ≡ records_of a.c.now = omega arith in
-    c.loop-n.invariant.1 ∙ ap (λ x. how_many (numbers_to a.c.now a.kind x)) e

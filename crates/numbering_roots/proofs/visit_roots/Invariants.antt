@@ -6,7 +6,7 @@ use Rattle.numbering_roots.proofs.Rooting.{Rooting}
 use Rattle.numbering_roots.proofs.visit_roots.Given as goal
 
 abbrev pub invariant-loop-n : goal.invariant-loop-n
-invariant-loop-n l = 
+invariant-loop-n l =
     Rooting l.circuit l.starts (gates_from l.circuit 0 l.from (l.to - l.from)) (mk l.initial.qubits l.initial.origins l.initial.roles l.initial.free.0)
     (gates_from l.circuit 0 l.n (l.to - l.n)) (mk l.qubits l.origins l.roles l.free.0)
 

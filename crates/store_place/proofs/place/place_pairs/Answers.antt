@@ -1,4 +1,4 @@
-use Rattle.std.proofs.Common.{◌≡◌, refl, sym, ap, ◌∙◌, subst, ℕ, ◌<◌, ◌-◌, arith, ℤ, pos, length, get_or, w64, SFits, to_z-of_z, rules}
+use Rattle.std.proofs.Common.{sym, ap, subst, ◌≡◌, ◌∙◌, ◌<◌, arith, pos, length, get_or, w64, SFits, to_z-of_z, rules}
 use Rattle.laws.specs.Abs.{fits-abs}
 use Rattle.penalty.specs.Rows.{twos}
 use Rattle.energy.specs.Model.{halves}
@@ -7,90 +7,44 @@ use Rattle.store_place.specs.Wiring.{slots_of}
 use Rattle.store_place.proofs.Placing.{pairs-room, pairs-turn, firsts-below, seconds-below, pairs-done}
 use Rattle.store_place.proofs.place.place_pairs.Goals as goal
 
-ps-length : (c : tie.After-firsts-of invariant-loop decreases-loop) → length c.firsts-of.result ≡ 15
-ps-length c = ap length c.firsts-of.ensures
-
-qs-length : (c : tie.After-seconds-of invariant-loop decreases-loop) → length c.seconds-of.result ≡ 15
-qs-length c = ap length c.seconds-of.ensures
-
-cs-length : (c : tie.Start invariant-loop decreases-loop) → length c.args.t8 ≡ 15
-cs-length c = search rules
-
--- within a turn: the qubits are in the tables, the coefficient and its halves fit
-module _ (c : tie.In-loop invariant-loop decreases-loop) where
-  abbrev start : tie.Start invariant-loop decreases-loop
-  start = c.before.before.before.before.before.before.before
-
-  abbrev j : ℕ
-  j = c.before.loop.j
-
-  abbrev coef : ℤ
-  coef = get_or start.args.t8 c.before.loop.j (pos 0)
-
-  first_below : get_or c.before.before.before.firsts-of.result j 0 < length start.args.linear.now
-  first_below =
-      subst (λ qs. get_or qs j 0 < length start.args.linear.now) (sym c.before.before.before.firsts-of.ensures)
-      (firsts-below (slots_of start.args.w) _ start.pre.wired twos j (omega arith))
-
-  second_below : get_or c.before.before.seconds-of.result j 0 < length start.args.linear.now
-  second_below =
-      subst (λ qs. get_or qs j 0 < length start.args.linear.now) (sym c.before.before.seconds-of.ensures)
-      (seconds-below (slots_of start.args.w) _ start.pre.wired twos j (omega arith))
-
-  coef-fits : SFits w64 coef
-  coef-fits = fits-abs w64 _ (omega (arith, start.pre.few j))
-
-  halves-fit : SFits w64 (halves coef)
-  halves-fit = fits-abs w64 _ (omega (arith, start.pre.few j, abs-halves coef))
-
-  at_ps : j < length c.before.before.before.firsts-of.result
-  at_ps = omega (arith, ps-length c.before.before.before)
-
-  at-qs : j < length c.before.before.seconds-of.result
-  at-qs = omega (arith, qs-length c.before.before)
-
-  at-cs : j < length start.args.t8
-  at-cs = omega (arith, cs-length start)
-
-pub loop-j-init : goal.loop-j-init
-loop-j-init c = (omega arith, record { linear = refl; present = refl; rows = refl; keys = refl; weights = refl; left = λ o f. refl; grows = omega arith; room = omega arith; rest = refl; size = omega arith })
-
-pub overflow_add-h : goal.overflow_add-h
-overflow_add-h c = simp (to_z-of_z (coef-fits c)) (halves-fit c)
-
 pub add_pair-m-requires : goal.add_pair-m-requires
 add_pair-m-requires c =
+    let a = c.args in
     let inv = c.loop-j.invariant.1 in
-    let s = start c in
+    let coef = get_or a.cs c.loop-j.j (pos 0) in
+    let coef-fits : SFits w64 coef = fits-abs w64 _ (omega (arith, c.requires.few c.loop-j.j)) in
+    let halves-fit : SFits w64 (halves coef) = fits-abs w64 _ (omega (arith, c.requires.few c.loop-j.j, abs-halves coef)) in
+    let r = c.requires in
+    let j = c.loop-j.j in
+    let first : get_or c.firsts_of-ps.result j 0 < length a.linear.now = subst (λ qs. get_or qs j 0 < length a.linear.now) (sym c.firsts_of-ps.ensures) (firsts-below (slots_of a.w) _ r.wired twos j (omega arith)) in
+    let second : get_or c.seconds_of-qs.result j 0 < length a.linear.now = subst (λ qs. get_or qs j 0 < length a.linear.now) (sym c.seconds_of-qs.ensures) (seconds-below (slots_of a.w) _ r.wired twos j (omega arith)) in
+    let ps-length : length c.firsts_of-ps.result ≡ 15 = ap length c.firsts_of-ps.ensures in
+    let qs-length : length c.seconds_of-qs.result ≡ 15 = ap length c.seconds_of-qs.ensures in
+    let cs-length : length a.cs ≡ 15 = search rules in
     record {
-      present = inv.present ∙ s.pre.present ∙ sym inv.linear;
-      rows = inv.rows ∙ s.pre.rows ∙ sym inv.linear;
-      even = inv.weights ∙ s.pre.even ∙ sym inv.keys;
-      first = omega (arith, first_below c, inv.linear);
-      second = omega (arith, second_below c, inv.linear);
-      room = simp (to_z-of_z (coef-fits c), to_z-of_z (halves-fit c)) (pairs-room inv s.pre.few (at_ps c) (at-qs c) (at-cs c) _ (omega (arith, s.pre.room, inv.keys)));
-      small = simp (to_z-of_z (coef-fits c), to_z-of_z (halves-fit c)) (omega (arith, inv.size, s.pre.small, s.pre.few (j c), abs-halves (coef c)));
+      present = inv.present ∙ r.present ∙ sym inv.linear;
+      rows = inv.rows ∙ r.rows ∙ sym inv.linear;
+      even = inv.weights ∙ r.even ∙ sym inv.keys;
+      first = omega (arith, first, inv.linear);
+      second = omega (arith, second, inv.linear);
+      room = simp (to_z-of_z coef-fits, to_z-of_z halves-fit) (pairs-room inv r.few (omega (arith, ps-length)) (omega (arith, qs-length)) (omega (arith, cs-length)) _ (omega (arith, r.room, inv.keys)));
+      small = simp (to_z-of_z coef-fits, to_z-of_z halves-fit) (omega (arith, inv.size, r.small, r.few j, abs-halves coef));
     }
 
 pub loop-j-preserved : goal.loop-j-preserved
 loop-j-preserved c =
+    let a = c.args in
+    let inv = c.loop-j.invariant.1 in
+    let coef = get_or a.cs c.loop-j.j (pos 0) in
+    let coef-fits : SFits w64 coef = fits-abs w64 _ (omega (arith, c.requires.few c.loop-j.j)) in
+    let halves-fit : SFits w64 (halves coef) = fits-abs w64 _ (omega (arith, c.requires.few c.loop-j.j, abs-halves coef)) in
+    let ps-length : length c.firsts_of-ps.result ≡ 15 = ap length c.firsts_of-ps.ensures in
+    let qs-length : length c.seconds_of-qs.result ≡ 15 = ap length c.seconds_of-qs.ensures in
+    let cs-length : length a.cs ≡ 15 = search rules in
     let kept = c.add_pair-m.auto in
-    (omega arith, pairs-turn c.loop-j.invariant.1 (start c).requires.few (at_ps c) (at-qs c) (at-cs c) _ (simp (to_z-of_z (coef-fits c), to_z-of_z (halves-fit c))) kept.0 kept.1.0 kept.1.1.0 kept.1.1.1.0 kept.1.1.1.1.0 c.add_pair-m.ensures.0 c.add_pair-m.ensures.1)
+    (omega arith, pairs-turn inv c.requires.few (omega (arith, ps-length)) (omega (arith, qs-length)) (omega (arith, cs-length)) _ (simp (to_z-of_z coef-fits, to_z-of_z halves-fit)) kept.linear kept.present kept.rows kept.keys kept.weights c.add_pair-m.ensures.result_after c.add_pair-m.ensures.longer)
 
-pub shape_of-linear : goal.shape_of-linear
-shape_of-linear c = c.loop-j.invariant.1.linear
-
-pub shape_of-present : goal.shape_of-present
-shape_of-present c = c.loop-j.invariant.1.present
-
-pub shape_of-rows : goal.shape_of-rows
-shape_of-rows c = c.loop-j.invariant.1.rows
-
-pub shape_of-keys : goal.shape_of-keys
-shape_of-keys c = c.loop-j.invariant.1.keys
-
-pub shape_of-weights : goal.shape_of-weights
-shape_of-weights c = c.loop-j.invariant.1.weights
-
-pub returns : goal.returns
-returns c = pairs-done c.loop-j.invariant.1 (slots_of c.args.w) twos c.firsts_of-ps.ensures c.seconds_of-qs.ensures (omega (arith, ps-length c))
+pub returns-clause-result_after : goal.returns-clause-result_after
+returns-clause-result_after c =
+    let ps-length : length c.firsts_of-ps.result ≡ 15 = ap length c.firsts_of-ps.ensures in
+    (pairs-done c.loop-j.invariant.1 (slots_of c.args.w) twos c.firsts_of-ps.ensures c.seconds_of-qs.ensures (omega (arith, ps-length))).0

@@ -4,9 +4,9 @@ use Rattle.store_place.proofs.Placing.{Logging}
 use Rattle.store_place.proofs.place.place_pairs.Given as goal
 
 abbrev pub invariant-loop-j : goal.invariant-loop-j
-invariant-loop-j l = 
+invariant-loop-j l =
     (l.j ≤ 15) × Logging l.ps l.qs l.cs l.initial.linear l.initial.present l.initial.rows l.initial.keys l.initial.weights l.n l.linear l.present l.rows l.keys l.weights l.m l.j
 
 abbrev pub decreases-loop-j : goal.decreases-loop-j
-decreases-loop-j l = 
+decreases-loop-j l =
     15 - l.j

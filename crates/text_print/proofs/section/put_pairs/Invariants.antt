@@ -1,5 +1,6 @@
 -- `section::put_pairs` meets its contract. The loop: what is left to print are the pairs from the k-th on.
-use Rattle.std.proofs.Common.{zip, ◌-◌, ◌≤◌, take}
+use mathlib.Core.List.{zip}
+use Rattle.std.proofs.Common.{◌-◌, ◌≤◌, take}
 use Rattle.text.specs.Text.{lines, pair_text}
 use Rattle.text.specs.Left.{Left}
 use Rattle.text_print.proofs.Tables.{pairs-from}
