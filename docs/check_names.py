@@ -1,5 +1,5 @@
 #!/usr/bin/env python3
-"""Every definition, theorem, function, file and must-fail edit that docs/WHAT-IS-PROVED.md names in backquotes must exist, what it says to be in a file of specs/
+"""Every definition, theorem, function, file and must-fail edit that docs/WHAT-IS-PROVED.md names in backquotes must exist, what it says to be in a file of specs/ or proofs/ or proofs/
 must be declared there, and no edit may be missing on the page. Prints what is wrong, and fails."""
 import glob
 import os
@@ -9,12 +9,12 @@ import sys
 TOP = os.path.dirname(os.path.dirname(os.path.abspath(__file__)))
 os.chdir(TOP)
 page = open('docs/WHAT-IS-PROVED.md').read()
-sources = '\n'.join(open(p).read() for p in glob.glob('crates/*/specs/*.antt') + glob.glob('crates/*/src/*.rt'))
+sources = '\n'.join(open(p).read() for p in glob.glob('crates/*/specs/*.antt') + glob.glob('crates/*/proofs/*.antt') + glob.glob('crates/*/src/*.rt'))
 edits = {'%s/%s' % (p.split('/')[1], os.path.basename(p)[:-len('.edit')]) for p in glob.glob('crates/*/must-fail/*.edit')}
 
 
 def files(name):
-    return [p for p in ['crates/' + name, name] + glob.glob('crates/*/specs/' + name) + glob.glob('crates/*/' + name) if os.path.exists(p)]
+    return [p for p in ['crates/' + name, name] + glob.glob('crates/*/specs/' + name) + glob.glob('crates/*/proofs/' + name) + glob.glob('crates/*/' + name) if os.path.exists(p)]
 
 
 def exists(name):
