@@ -1,5 +1,5 @@
 #!/usr/bin/env python3
-"""Every definition, theorem, function, file and must-fail edit that docs/WHAT-IS-PROVED.md names in backquotes must exist, what it says to be in a file of specs/ or proofs/ or proofs/
+"""Every definition, theorem, function, file and must-fail edit that docs/WHAT-IS-PROVED.md names in backquotes must exist, what it says to be in a file of specs/ or proofs/
 must be declared there, and no edit may be missing on the page. Prints what is wrong, and fails."""
 import glob
 import os
