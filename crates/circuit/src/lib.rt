@@ -1,6 +1,8 @@
 // The circuit file: records of 16 bytes, what the bytes mean, and when they are refused. The one crate that knows how a record lies in bytes.
 // The definitions in specs/ follow 01 sentence by sentence. The crate `circuit_records` reads a record's parts, `circuit_lists` says where lists and inputs stand and reads the bad states and
 // inputs of an accepted file; the code of the checks 1 to 7 is the crates `circuit_form`, `circuit_sizes`, `circuit_references` and `circuit_check`.
+#![tactic(auto)]
+
 pub mod answers;
 
 use units::{Gate, Qubit};

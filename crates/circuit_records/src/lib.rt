@@ -1,5 +1,6 @@
 // Reading a record of 16 bytes: byte 0 kind, byte 1 index or value, then a, b, c of two bytes each, then nid of eight bytes, little endian.
 #![tactic(auto)]
+
 ghost use Rattle.std.specs.Prelude.{◌≡◌, ◌+◌, ◌*◌, ◌≤◌, ◌<◌, length};
 ghost use Rattle.circuit.specs.File.{half, word, field, kind_byte, kind_at, section_at, byte1, nid_at};
 

@@ -1,5 +1,6 @@
 // What a rule reads, in order, and what it does with it.
 #![tactic(auto)]
+
 ghost use Rattle.std.specs.Prelude.{◌≡◌, ◌+◌, ◌≤◌, ◌<◌, length, get_or};
 ghost use Rattle.units.specs.Name.{qubit};
 ghost use Rattle.run_rules.specs.Code.{few, few_of, act_of, PartAsked, part_of, ListsAsked, operands_of, count_of, few_at, OperandAsked, read};

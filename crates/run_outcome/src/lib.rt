@@ -1,4 +1,6 @@
 // What a run answers: the energy with its form and the verdict, or a refusal; and the true bad states.
+#![tactic(auto)]
+
 use circuit::Refusal;
 use units::Energy;
 

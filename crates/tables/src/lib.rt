@@ -1,5 +1,6 @@
 // Tables with one value in each entry.
 #![tactic(auto)]
+
 ghost use Rattle.std.specs.Prelude.{◌≡◌, pos, length, replicate};
 
 pub fn fill_u8(t: &mut [u8], x: u8)

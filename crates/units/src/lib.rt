@@ -2,6 +2,7 @@
 // number and a qubit's name are two types, and the one is never accepted for the other.
 // Everywhere else in the project, in tables and in contracts, a coefficient or an energy is a whole count of halves, in the 0/1 form and in the Ising form alike.
 #![tactic(auto)]
+
 ghost use Rattle.std.specs.Prelude.{◌≡◌, min, pos};
 ghost use Rattle.laws.specs.Equal.{eq_z};
 ghost use Rattle.units.specs.Halves.{halves_of, energy_of};

@@ -1,5 +1,5 @@
 -- `circuit_records::kind_at` meets its contract: each arm knows the kind, and the last one that it is none of the others.
-use Rattle.std.proofs.Common.{rules, ne_eqb}
+use Rattle.std.proofs.Common.{rules}
 use Rattle.circuit.specs.File.{kind_at, kind_of}
 use borrow.Author.Tests.{tests}
 use Rattle.circuit_records.proofs.kind_at.Goals as goal

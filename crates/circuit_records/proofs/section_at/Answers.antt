@@ -1,6 +1,5 @@
 -- `circuit_records::section_at` meets its contract: each arm knows the kind, and the last one that it is none of the others.
-use Rattle.std.proofs.Common.{rules, arith, le-leb, ne_eqb}
-use borrow.Author.Tests.{lt-leb}
+use Rattle.std.proofs.Common.{rules, arith, le-leb}
 use Rattle.circuit.specs.File.{section_at, section_of}
 use borrow.Author.Tests.{tests}
 use Rattle.circuit_records.proofs.section_at.Goals as goal

@@ -1,4 +1,4 @@
-use Rattle.std.proofs.Common.{◌-◌, arith, length-set}
+use Rattle.std.proofs.Common.{arith, length-set}
 use Rattle.laws.specs.Alike.{alike-starts, alike-turn, alike-ends}
 use Rattle.tables.proofs.zero_u32.Goals as goal
 
