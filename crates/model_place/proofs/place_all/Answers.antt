@@ -20,14 +20,13 @@ loop-q-smaller c = omega (arith, c.loop-q-test.true)
 
 pub loop-q-preserved : goal.loop-q-preserved
 loop-q-preserved c =
-    let v = c.place_one-t in
     let i = c.loop-q.invariant in (
-      turn _ _ _ _ c.requires.0 i.0 c.loop-q-test.true c.row_at-p.ensures v.auto.1.1.1.0 v.auto.1.1.1.1.0 v.ensures,
-      v.auto.0 ∙ i.1,
-      v.auto.1.0 ∙ i.2,
-      v.auto.1.1.0 ∙ i.3,
-      v.auto.1.1.1.0 ∙ i.4,
-      v.auto.1.1.1.1.0 ∙ i.5,
+      turn _ _ _ _ c.requires.0 i.0 c.loop-q-test.true c.row_at-p.ensures c.place_one-t.auto.keys c.place_one-t.auto.weights c.place_one-t.ensures,
+      c.place_one-t.auto.linear ∙ i.1,
+      c.place_one-t.auto.present ∙ i.2,
+      c.place_one-t.auto.rows ∙ i.3,
+      c.place_one-t.auto.keys ∙ i.4,
+      c.place_one-t.auto.weights ∙ i.5,
     )
 
 pub shape_of-linear : goal.shape_of-linear

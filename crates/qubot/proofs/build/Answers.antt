@@ -42,6 +42,5 @@ shape_of-weights c = c.fill_tables-filled.auto.weights
 
 pub returns-in-Accepted : goal.returns-in-Accepted
 returns-in-Accepted c =
-    let v = c.fill_tables-filled in
-    ap (λ (z : Built). (lent v.new.1.1.1.0 v.new.1.1.1.1.0 v.new.1.1.1.1.1.0 v.new.1.1.1.1.1.1.0 v.new.1.1.1.1.1.1.1.0 v.new.1.1.1.1.1.1.1.1.0 v.new.1.1.1.1.1.1.1.1.1.0 v.new.1.1.1.1.1.1.1.1.1.1.0 v.new.1.1.1.1.1.1.1.1.1.1.1.0, z)) c.answer_of.ensures
-    ∙ built-as c.args.circuit.now c.args.form (lent c.args.qubits.now c.args.origins.now c.args.roles.now c.args.linear.now c.args.has-linear.now c.args.has-row.now c.args.fixed.now c.args.keys.now c.args.weights.now) c.check-checked.ensures c.least_of-names.ensures c.lesser-pairs.ensures c.in-Accepted.is v.ensures
+    ap (λ (z : Built). (lent c.fill_tables-filled.new.qubits c.fill_tables-filled.new.origins c.fill_tables-filled.new.roles c.fill_tables-filled.new.linear c.fill_tables-filled.new.has_linear c.fill_tables-filled.new.has_row c.fill_tables-filled.new.fixed c.fill_tables-filled.new.keys c.fill_tables-filled.new.weights, z)) c.answer_of.ensures
+    ∙ built-as c.args.circuit.now c.args.form (lent c.args.qubits.now c.args.origins.now c.args.roles.now c.args.linear.now c.args.has-linear.now c.args.has-row.now c.args.fixed.now c.args.keys.now c.args.weights.now) c.check-checked.ensures c.least_of-names.ensures c.lesser-pairs.ensures c.in-Accepted.is c.fill_tables-filled.ensures

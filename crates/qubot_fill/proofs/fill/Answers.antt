@@ -10,11 +10,11 @@ number_names-ended-requires c = (c.requires.0, c.requires.1)
 
 pub fill_model-filled-requires : goal.fill_model-filled-requires
 fill_model-filled-requires c =
-    let u = c.number_names-ended in (
+    (
       c.requires.0,
-      record { qubits = u.auto.1.1.0 ∙ c.requires.1.qubits; origins = u.auto.1.1.1.0 ∙ c.requires.1.origins; roles = u.auto.1.1.1.1.0 ∙ c.requires.1.roles },
+      record { qubits = c.number_names-ended.auto.qubits ∙ c.requires.1.qubits; origins = c.number_names-ended.auto.origins ∙ c.requires.1.origins; roles = c.number_names-ended.auto.roles ∙ c.requires.1.roles },
       c.requires.2,
-      u.ensures,
+      c.number_names-ended.ensures,
     )
 
 pub shape_of-qubits-then-is_model : goal.shape_of-qubits-then-is_model
@@ -45,10 +45,7 @@ pub shape_of-weights-then-is_model : goal.shape_of-weights-then-is_model
 shape_of-weights-then-is_model c = c.fill_model-filled.auto.weights
 
 pub returns-then-is_model : goal.returns-then-is_model
-returns-then-is_model c =
-    let u = c.number_names-ended in
-    let v = c.fill_model-filled in
-    kept-as (circuit_of c.args.circuit.now) (lent u.new.1.1.0 u.new.1.1.1.0 u.new.1.1.1.1.0 v.new.1.1.1.1.1.1.1.0 v.new.1.1.1.1.1.1.1.1.0 v.new.1.1.1.1.1.1.1.1.1.0 v.new.1.1.1.1.1.1.1.1.1.1.0 v.new.1.1.1.1.1.1.1.1.1.1.1.0 v.new.1.1.1.1.1.1.1.1.1.1.1.1.0) v.result (sym c.is_model.ensures ∙ c.if-is_model.true) ∙ v.ensures
+returns-then-is_model c = kept-as (circuit_of c.args.circuit.now) (lent c.number_names-ended.new.qubits c.number_names-ended.new.origins c.number_names-ended.new.roles c.fill_model-filled.new.linear c.fill_model-filled.new.present c.fill_model-filled.new.rows c.fill_model-filled.new.fixed c.fill_model-filled.new.keys c.fill_model-filled.new.weights) c.fill_model-filled.result (sym c.is_model.ensures ∙ c.if-is_model.true) ∙ c.fill_model-filled.ensures
 
 pub shape_of-qubits : goal.shape_of-qubits
 shape_of-qubits c = c.clear_names.auto.qubits ∙ c.number_names-ended.auto.qubits
@@ -79,13 +76,11 @@ shape_of-weights c = c.clear_model.auto.weights ∙ c.fill_model-filled.auto.wei
 
 pub returns : goal.returns
 returns c =
-    let u = c.number_names-ended in
-    let v = c.fill_model-filled in
     let n = c.clear_names.ensures in
     let z = c.clear_model.ensures in
-    zeroed-as (circuit_of c.args.circuit.now) (lent u.new.1.1.0 u.new.1.1.1.0 u.new.1.1.1.1.0 v.new.1.1.1.1.1.1.1.0 v.new.1.1.1.1.1.1.1.1.0 v.new.1.1.1.1.1.1.1.1.1.0 v.new.1.1.1.1.1.1.1.1.1.1.0 v.new.1.1.1.1.1.1.1.1.1.1.1.0 v.new.1.1.1.1.1.1.1.1.1.1.1.1.0) v.result (sym c.is_model.ensures ∙ c.if-is_model.false)
-    (all-zero (circuit_of c.args.circuit.now) {q = u.new.1.1.0} {o = u.new.1.1.1.0} {r = u.new.1.1.1.1.0} {l = v.new.1.1.1.1.1.1.1.0} {h = v.new.1.1.1.1.1.1.1.1.0} {w = v.new.1.1.1.1.1.1.1.1.1.0} {f = v.new.1.1.1.1.1.1.1.1.1.1.0} {ks = v.new.1.1.1.1.1.1.1.1.1.1.1.0} {ws = v.new.1.1.1.1.1.1.1.1.1.1.1.1.0}
-    (record { qubits = u.auto.1.1.0 ∙ c.requires.1.qubits; origins = u.auto.1.1.1.0 ∙ c.requires.1.origins; roles = u.auto.1.1.1.1.0 ∙ c.requires.1.roles })
-    (record { linear = v.auto.1.1.1.1.1.1.1.0 ∙ c.requires.2.linear; has_linear = v.auto.1.1.1.1.1.1.1.1.0 ∙ c.requires.2.has_linear; has_row = v.auto.1.1.1.1.1.1.1.1.1.0 ∙ c.requires.2.has_row; fixed = v.auto.1.1.1.1.1.1.1.1.1.1.0 ∙ c.requires.2.fixed; keys = v.auto.1.1.1.1.1.1.1.1.1.1.1.0 ∙ c.requires.2.keys; weights = v.auto.1.1.1.1.1.1.1.1.1.1.1.1.0 ∙ c.requires.2.weights })
+    zeroed-as (circuit_of c.args.circuit.now) (lent c.number_names-ended.new.qubits c.number_names-ended.new.origins c.number_names-ended.new.roles c.fill_model-filled.new.linear c.fill_model-filled.new.present c.fill_model-filled.new.rows c.fill_model-filled.new.fixed c.fill_model-filled.new.keys c.fill_model-filled.new.weights) c.fill_model-filled.result (sym c.is_model.ensures ∙ c.if-is_model.false)
+    (all-zero (circuit_of c.args.circuit.now) {q = c.number_names-ended.new.qubits} {o = c.number_names-ended.new.origins} {r = c.number_names-ended.new.roles} {l = c.fill_model-filled.new.linear} {h = c.fill_model-filled.new.present} {w = c.fill_model-filled.new.rows} {f = c.fill_model-filled.new.fixed} {ks = c.fill_model-filled.new.keys} {ws = c.fill_model-filled.new.weights}
+    (record { qubits = c.number_names-ended.auto.qubits ∙ c.requires.1.qubits; origins = c.number_names-ended.auto.origins ∙ c.requires.1.origins; roles = c.number_names-ended.auto.roles ∙ c.requires.1.roles })
+    (record { linear = c.fill_model-filled.auto.linear ∙ c.requires.2.linear; has_linear = c.fill_model-filled.auto.present ∙ c.requires.2.has_linear; has_row = c.fill_model-filled.auto.rows ∙ c.requires.2.has_row; fixed = c.fill_model-filled.auto.fixed ∙ c.requires.2.fixed; keys = c.fill_model-filled.auto.keys ∙ c.requires.2.keys; weights = c.fill_model-filled.auto.weights ∙ c.requires.2.weights })
     n.0 n.1 n.2 z.0 z.1 z.2 z.3 z.4 z.5)
-    ∙ v.ensures
+    ∙ c.fill_model-filled.ensures

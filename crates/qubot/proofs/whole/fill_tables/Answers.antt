@@ -71,34 +71,33 @@ pub fill-requires : goal.fill-requires
 fill-requires c = (c.requires.0, name-parts c.requires.0 {t = lent c.args.qubits.now c.args.origins.now c.args.roles.now c.args.linear.now c.args.has-linear.now c.args.has-row.now c.args.fixed.now c.args.keys.now c.args.weights.now} c.requires.1, model-parts c.requires.0 {t = lent c.args.qubits.now c.args.origins.now c.args.roles.now c.args.linear.now c.args.has-linear.now c.args.has-row.now c.args.fixed.now c.args.keys.now c.args.weights.now} c.requires.1)
 
 pub shape_of-qubits : goal.shape_of-qubits
-shape_of-qubits c = let v = c.fill in length_front c.args.qubits.now v.new.1.1.1.0 c.args.k.gates v.auto.1.1.1.0
+shape_of-qubits c = length_front c.args.qubits.now c.fill.new.qubits c.args.k.gates c.fill.auto.qubits
 
 pub shape_of-origins : goal.shape_of-origins
-shape_of-origins c = let v = c.fill in length_front c.args.origins.now v.new.1.1.1.1.0 (names c.args.k) v.auto.1.1.1.1.0
+shape_of-origins c = length_front c.args.origins.now c.fill.new.origins (names c.args.k) c.fill.auto.origins
 
 pub shape_of-roles : goal.shape_of-roles
-shape_of-roles c = let v = c.fill in length_front c.args.roles.now v.new.1.1.1.1.1.0 (names c.args.k) v.auto.1.1.1.1.1.0
+shape_of-roles c = length_front c.args.roles.now c.fill.new.roles (names c.args.k) c.fill.auto.roles
 
 pub shape_of-linear : goal.shape_of-linear
-shape_of-linear c = let v = c.fill in length_front c.args.linear.now v.new.1.1.1.1.1.1.0 (names c.args.k) v.auto.1.1.1.1.1.1.0
+shape_of-linear c = length_front c.args.linear.now c.fill.new.linear (names c.args.k) c.fill.auto.linear
 
 pub shape_of-has_linear : goal.shape_of-has_linear
-shape_of-has_linear c = let v = c.fill in length_front c.args.has-linear.now v.new.1.1.1.1.1.1.1.0 (names c.args.k) v.auto.1.1.1.1.1.1.1.0
+shape_of-has_linear c = length_front c.args.has-linear.now c.fill.new.present (names c.args.k) c.fill.auto.present
 
 pub shape_of-has_row : goal.shape_of-has_row
-shape_of-has_row c = let v = c.fill in length_front c.args.has-row.now v.new.1.1.1.1.1.1.1.1.0 (names c.args.k) v.auto.1.1.1.1.1.1.1.1.0
+shape_of-has_row c = length_front c.args.has-row.now c.fill.new.rows (names c.args.k) c.fill.auto.rows
 
 pub shape_of-fixed : goal.shape_of-fixed
-shape_of-fixed c = let v = c.fill in length_front c.args.fixed.now v.new.1.1.1.1.1.1.1.1.1.0 (names c.args.k) v.auto.1.1.1.1.1.1.1.1.1.0
+shape_of-fixed c = length_front c.args.fixed.now c.fill.new.fixed (names c.args.k) c.fill.auto.fixed
 
 pub shape_of-keys : goal.shape_of-keys
-shape_of-keys c = let v = c.fill in length_front c.args.keys.now v.new.1.1.1.1.1.1.1.1.1.1.0 (pairs c.args.k) v.auto.1.1.1.1.1.1.1.1.1.1.0
+shape_of-keys c = length_front c.args.keys.now c.fill.new.keys (pairs c.args.k) c.fill.auto.keys
 
 pub shape_of-weights : goal.shape_of-weights
-shape_of-weights c = let v = c.fill in length_front c.args.weights.now v.new.1.1.1.1.1.1.1.1.1.1.1.0 (pairs c.args.k) v.auto.1.1.1.1.1.1.1.1.1.1.1.0
+shape_of-weights c = length_front c.args.weights.now c.fill.new.weights (pairs c.args.k) c.fill.auto.weights
 
 pub returns : goal.returns
 returns c =
-    let v = c.fill in
-    fitted {k = c.args.k} (lent c.args.qubits.now c.args.origins.now c.args.roles.now c.args.linear.now c.args.has-linear.now c.args.has-row.now c.args.fixed.now c.args.keys.now c.args.weights.now) c.requires.1 (lent v.new.1.1.1.0 v.new.1.1.1.1.0 v.new.1.1.1.1.1.0 v.new.1.1.1.1.1.1.0 v.new.1.1.1.1.1.1.1.0 v.new.1.1.1.1.1.1.1.1.0 v.new.1.1.1.1.1.1.1.1.1.0 v.new.1.1.1.1.1.1.1.1.1.1.0 v.new.1.1.1.1.1.1.1.1.1.1.1.0) v.result v.auto.1.1.1.0 v.auto.1.1.1.1.0 v.auto.1.1.1.1.1.0 v.auto.1.1.1.1.1.1.0 v.auto.1.1.1.1.1.1.1.0 v.auto.1.1.1.1.1.1.1.1.0 v.auto.1.1.1.1.1.1.1.1.1.0 v.auto.1.1.1.1.1.1.1.1.1.1.0 v.auto.1.1.1.1.1.1.1.1.1.1.1.0
-    ∙ ap (in_tables (lent c.args.qubits.now c.args.origins.now c.args.roles.now c.args.linear.now c.args.has-linear.now c.args.has-row.now c.args.fixed.now c.args.keys.now c.args.weights.now)) v.ensures
+    fitted {k = c.args.k} (lent c.args.qubits.now c.args.origins.now c.args.roles.now c.args.linear.now c.args.has-linear.now c.args.has-row.now c.args.fixed.now c.args.keys.now c.args.weights.now) c.requires.1 (lent c.fill.new.qubits c.fill.new.origins c.fill.new.roles c.fill.new.linear c.fill.new.present c.fill.new.rows c.fill.new.fixed c.fill.new.keys c.fill.new.weights) c.fill.result c.fill.auto.qubits c.fill.auto.origins c.fill.auto.roles c.fill.auto.linear c.fill.auto.present c.fill.auto.rows c.fill.auto.fixed c.fill.auto.keys c.fill.auto.weights
+    ∙ ap (in_tables (lent c.args.qubits.now c.args.origins.now c.args.roles.now c.args.linear.now c.args.has-linear.now c.args.has-row.now c.args.fixed.now c.args.keys.now c.args.weights.now)) c.fill.ensures
