@@ -1,6 +1,7 @@
 // The rows of all names are placed: their linear coefficients join the linear entries, and their pairs go to the log, which is settled once.
 // The crate `model_rows` reads a name's row off the circuit and the tables of names.
 #![tactic(auto)]
+
 ghost use Rattle.std.specs.Prelude.{List, ◌≡◌, ℕ, ◌+◌, ◌<◌};
 ghost use Rattle.circuit.specs.Meaning.{circuit_of};
 ghost use Rattle.numbering.specs.State.{mk, names_of};

@@ -8,7 +8,7 @@ use Rattle.std.proofs.lemmas.List.{length-map}
 use Rattle.penalty.specs.declared.Kind.{Kind}
 use Rattle.penalty.specs.declared.Kind.TheVariants as row
 use Rattle.energy.specs.Plain.{Row}
-use Rattle.energy.specs.Circuit.{Circuit, Bad, ConstFalse, node, nodes_of}
+use Rattle.energy.specs.Circuit.{Circuit, Bad, node, nodes_of}
 use Rattle.circuit.specs.declared.GateKind.{GateKind}
 use Rattle.circuit.specs.declared.GateKind.TheVariants as kind
 use Rattle.circuit.specs.File.{field, kind_at}

@@ -1,5 +1,6 @@
 // The row of a name: its kind, and the qubits at its slots. What differs by kind lies here.
 #![tactic(auto)]
+
 ghost use Rattle.std.specs.Prelude.{[], ◌∷◌, ◌≡◌, ◌+◌, ◌-◌, ◌≤◌, ◌<◌, length, get_or};
 ghost use Rattle.energy.specs.Plain.{more, mid};
 ghost use Rattle.circuit.specs.File.{field, kind_at};

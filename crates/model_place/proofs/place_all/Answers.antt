@@ -1,4 +1,4 @@
-use Rattle.std.proofs.Common.{refl, ◌∙◌, ◌-◌, arith}
+use Rattle.std.proofs.Common.{refl, ◌∙◌, arith}
 use Rattle.model_rows.specs.Rowed.{fin}
 use Rattle.model_place.specs.Blank.{names-small, starts, can-place, turn, all-logged}
 use Rattle.model_place.proofs.place_all.Goals as goal

@@ -6,7 +6,7 @@ use Rattle.model_place.specs.Blank.{Logged}
 use Rattle.model_place.proofs.place_all.Given as goal
 
 abbrev pub invariant-loop-q : goal.invariant-loop-q
-invariant-loop-q l = 
+invariant-loop-q l =
     Logged (circuit_of l.circuit) (mk l.qubits l.origins l.roles l.next.0) l.q l.t l.linear l.present l.rows l.keys l.weights
     × (length l.linear ≡ length l.initial.linear)
     × (length l.present ≡ length l.initial.present)
