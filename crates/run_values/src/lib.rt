@@ -1,5 +1,6 @@
 // The value of a qubit from those that its rule reads, put into the table; 14 and 15.
 #![tactic(auto)]
+
 ghost use Rattle.std.specs.Prelude.{◌≡◌};
 ghost use Rattle.run_values.specs.Code.{is_stop};
 

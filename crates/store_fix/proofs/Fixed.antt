@@ -7,6 +7,9 @@ use Prim.Native.Nat.{ℕ, ◌+◌, ◌^◌, ◌≤◌}
 use native.Mathlib.Omega.{arith}
 use lib.IntN.{ℤ, pos, nat_abs, ◌+ℤ◌}
 use lib.ListN.{length, take, set, get_or}
+use mir.Syntax.{w64}
+use mir.Val.{SFits}
+use Rattle.laws.specs.Abs.{fits-abs}
 use Rattle.energy.specs.Model.{Model, gated, give, without, clear, fix, sizes, mass}
 use Rattle.energy.specs.Mass.{mass-fix, offset-within}
 use Rattle.store_pairs.specs.Store.{zip, over, load}
@@ -32,6 +35,9 @@ module _ {o : ℤ} {l : List ℤ} {h r f ks : List ℕ} {ws : List ℤ} {n : ℕ
         small = omega (arith, load-small, ready.small);
       }
 
+  pub old-fits : SFits w64 o
+  old-fits = fits-abs w64 _ (omega (arith, ready.small, offset-within m₀))
+
   module _ (q : ℕ) (on : Bool) {l₁ : List ℤ} {h₁ : List ℕ}
       (given : (z : Model) → with_linear l₁ h₁ z ≡ give q on (take n (zip ks ws)) (with_linear l h z)) where
     -- the model once the pairs are given, and fixed
@@ -42,6 +48,9 @@ module _ {o : ℤ} {l : List ℤ} {h r f ks : List ℕ} {ws : List ℤ} {n : ℕ
     pub offset-small : nat_abs (o +ℤ gated on (get_or l₁ q (pos 0))) ≤ 2 ^ 40
     offset-small =
         omega (arith, ap (λ (m : Model). nat_abs m.offset) fixed-is, offset-within (fix q on m₀), mass-fix q on m₀, ready.small)
+
+    pub sum-fits : {g : ℤ} → g ≡ gated on (get_or l₁ q (pos 0)) → SFits w64 (o +ℤ g)
+    sum-fits {g} e = fits-abs w64 _ (omega (arith, offset-small, ap (λ (z : ℤ). nat_abs (o +ℤ z)) e))
 
     pub all-fixed : (ks' : List ℕ) (ws' : List ℤ) (count mark : ℕ) (g o' : ℤ) {l₂ : List ℤ} {h₂ : List ℕ} → count ≡ length (without q (take n (zip ks ws)))
         → zip ks' ws' ≡ over (without q (take n (zip ks ws))) n (zip ks ws)

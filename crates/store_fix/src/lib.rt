@@ -1,3 +1,4 @@
 // Fixing a qubit of a finished model.
 #![tactic(auto)]
+
 pub mod fix;

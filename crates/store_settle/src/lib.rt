@@ -1,5 +1,6 @@
 // Settling: the log of pairs becomes the pairs of the model. `log` sorts and merges it.
 #![tactic(auto)]
+
 ghost use Rattle.std.specs.Prelude.{List, ◌≡◌, ℕ, ℤ, length};
 ghost use Rattle.store.specs.Tables.{tables, model_of, hold};
 ghost use Rattle.store_place.specs.Logged.{settled};

@@ -9,9 +9,6 @@ use Rattle.circuit_check.proofs.check_names.Goals as goal
 pub first_late-late-requires : goal.first_late-late-requires
 first_late-late-requires c = (c.requires.0.form, ap (λ (k : Counts). k.gates) c.requires.1 ∙ gates-of _, c.list_tops-tops.ensures)
 
-pub first_wrong-wrong-requires : goal.first_wrong-wrong-requires
-first_wrong-wrong-requires c = (record { regular = c.requires.0; early = sym c.first_late-late.ensures ∙ c.in-Nowhere.is }, c.list_tops-tops.ensures)
-
 pub returns-in-At : goal.returns-in-At
 returns-in-At c = named-late _ _ _ _ (sym c.first_late-late.ensures ∙ c.in-At.is)
 

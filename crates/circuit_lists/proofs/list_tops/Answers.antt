@@ -5,14 +5,8 @@ use Rattle.circuit_lists.proofs.list_tops.Goals as goal
 pub loop-n-init : goal.loop-n-init
 loop-n-init c = (omega arith, topping-start _)
 
-pub offset_bounds-tops-k : goal.offset_bounds-tops-k
-offset_bounds-tops-k c = omega (arith, list-small _ c.requires c.loop-n.invariant.1 c.loop-n-test.true c.kind_byte_at-kind.ensures c.field_at-k.ensures c.field_at-gate.ensures c.if-kind-eq20.true)
-
 pub bounds-tops-k : goal.bounds-tops-k
 bounds-tops-k c = omega (arith, list-small _ c.requires c.loop-n.invariant.1 c.loop-n-test.true c.kind_byte_at-kind.ensures c.field_at-k.ensures c.field_at-gate.ensures c.if-kind-eq20.true)
-
-pub offset_bounds-tops-k-then-kind-eq20 : goal.offset_bounds-tops-k-then-kind-eq20
-offset_bounds-tops-k-then-kind-eq20 c = omega (arith, list-small _ c.requires c.loop-n.invariant.1 c.loop-n-test.true c.kind_byte_at-kind.ensures c.field_at-k.ensures c.field_at-gate.ensures c.if-kind-eq20.true)
 
 pub bounds-tops-k-then-kind-eq20 : goal.bounds-tops-k-then-kind-eq20
 bounds-tops-k-then-kind-eq20 c = omega (arith, list-small _ c.requires c.loop-n.invariant.1 c.loop-n-test.true c.kind_byte_at-kind.ensures c.field_at-k.ensures c.field_at-gate.ensures c.if-kind-eq20.true)

@@ -1,6 +1,6 @@
 use Rattle.std.proofs.Common.{arith}
 use Rattle.circuit.specs.Starts.{few-records, ends-small}
-use Rattle.circuit_lists.proofs.Starting.{starting-start, next_small, turn-new, turn-same, starting-done}
+use Rattle.circuit_lists.proofs.Starting.{starting-start, turn-new, turn-same, starting-done}
 use Rattle.circuit_lists.proofs.starts_of.Goals as goal
 
 pub overflow_cast-past : goal.overflow_cast-past
@@ -11,15 +11,6 @@ loop-n-init c = (omega arith, starting-start _ _ _ c.requires)
 
 pub overflow_cast-at : goal.overflow_cast-at
 overflow_cast-at c = omega (arith, few-records _ c.requires.regular)
-
-pub offset_bounds-starts-next : goal.offset_bounds-starts-next
-offset_bounds-starts-next c = omega (arith, next_small _ _ _ c.requires c.loop-n.invariant.1 c.loop-n-test.true c.kind_byte_at-byte.ensures c.field_at-k.ensures c.if-byte-kind.true)
-
-pub bounds-starts-next : goal.bounds-starts-next
-bounds-starts-next c = omega (arith, next_small _ _ _ c.requires c.loop-n.invariant.1 c.loop-n-test.true c.kind_byte_at-byte.ensures c.field_at-k.ensures c.if-byte-kind.true)
-
-pub overflow_add-next : goal.overflow_add-next
-overflow_add-next c = omega (arith, next_small _ _ _ c.requires c.loop-n.invariant.1 c.loop-n-test.true c.kind_byte_at-byte.ensures c.field_at-k.ensures c.if-byte-kind.true)
 
 pub loop-n-preserved-then-byte-kind : goal.loop-n-preserved-then-byte-kind
 loop-n-preserved-then-byte-kind c = (omega arith, turn-new _ _ _ c.requires c.loop-n.invariant.1 c.loop-n-test.true c.kind_byte_at-byte.ensures c.field_at-k.ensures c.if-byte-kind.true)

@@ -9,9 +9,6 @@ offset_bounds-starts-k c = omega (arith, input-inside c.requires.0 c.requires.1 
 pub bounds-starts-k : goal.bounds-starts-k
 bounds-starts-k c = omega (arith, input-inside c.requires.0 c.requires.1 c.requires.2)
 
-pub overflow_cast-from : goal.overflow_cast-from
-overflow_cast-from c = omega (arith, input-inside c.requires.0 c.requires.1 c.requires.2)
-
 pub nid_at-requires : goal.nid_at-requires
 nid_at-requires c = omega (arith, input-inside c.requires.0 c.requires.1 c.requires.2)
 

@@ -8,9 +8,6 @@ pub loop-n-init : goal.loop-n-init
 unfolding first_late
 loop-n-init c = (omega arith, all_left (late c.args.c.now) (records_of c.args.c.now))
 
-pub is_late-requires : goal.is_late-requires
-is_late-requires c = (omega arith, c.requires.0, c.requires.1, c.requires.2)
-
 pub returns-then-is_late : goal.returns-then-is_late
 returns-then-is_late c = stop _ _ _ _ c.loop-n.invariant.1 c.loop-n-test.true (sym c.is_late.ensures ∙ c.if-is_late.true)
 

