@@ -1,5 +1,6 @@
 // Giving the inputs: each bit of a value to its qubit; refusals 12 and 13.
 #![tactic(auto)]
+
 ghost use Rattle.std.specs.Prelude.{◌≡◌, ◌+◌, ◌-◌, ◌<◌, length, pos};
 ghost use Rattle.laws.specs.Equal.{eq_z};
 ghost use Rattle.circuit.specs.Meaning.{circuit_of};

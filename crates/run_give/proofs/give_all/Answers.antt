@@ -1,4 +1,4 @@
-use Rattle.std.proofs.Common.{to_z-of_z, w64, ◌<◌, ◌-◌, arith, sym, ◌∙◌}
+use Rattle.std.proofs.Common.{to_z-of_z, w64, ◌<◌, arith, sym, ◌∙◌}
 use Rattle.run_give.proofs.Given.{giving-all-start, input-asked, all-on, all-stop, all_end}
 use Rattle.run_give.proofs.give_all.Goals as goal
 

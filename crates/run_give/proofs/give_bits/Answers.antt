@@ -1,4 +1,4 @@
-use Rattle.std.proofs.Common.{to_z-of_z, SFits, w64, ◌-◌, arith, sym, ◌∙◌}
+use Rattle.std.proofs.Common.{to_z-of_z, SFits, w64, arith, sym, ◌∙◌}
 use Rattle.run_give.proofs.Given.{giving-start}
 use Rattle.run_give.proofs.Given.{give-on, give-stop, used-up, not-used-up}
 use Rattle.run_give.proofs.give_bits.Goals as goal
@@ -28,7 +28,7 @@ pub loop-j-smaller : goal.loop-j-smaller
 loop-j-smaller c = omega (arith, c.loop-j-test.true)
 
 pub loop-j-preserved : goal.loop-j-preserved
-loop-j-preserved c = give-on c.loop-j.invariant c.loop-j-test.true c.set_bit-w.result c.set_bit-w.new.values c.field_at-g.ensures c.low_bit-b.ensures c.set_bit-w.ensures (sym c.stops.ensures ∙ c.if-stops.false) c.set_bit-w.auto.values (let ok : SFits w64 c.half_of-left.result = record { sfits = c.half_of-left.type-inv } in to_z-of_z ok ∙ c.half_of-left.ensures)
+loop-j-preserved c = give-on c.loop-j.invariant c.loop-j-test.true c.set_bit-w.result c.set_bit-w.new.values c.field_at-g.ensures c.low_bit-b.ensures c.set_bit-w.ensures (sym c.stops.ensures ∙ c.if-stops.false) c.set_bit-w.auto.values (let ok : SFits w64 c.half_of-left.result = record { sfits = c.half_of-left.type_inv } in to_z-of_z ok ∙ c.half_of-left.ensures)
 
 pub shape_of-values-then-is_zero : goal.shape_of-values-then-is_zero
 shape_of-values-then-is_zero c = c.loop-j.invariant.long
