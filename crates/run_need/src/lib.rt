@@ -1,5 +1,6 @@
 // The value of a qubit that is needed: the given one or one found before, else the fixed one, else its rule's, followed through its operands.
 #![tactic(auto)]
+
 ghost use Rattle.std.specs.Prelude.{◌≡◌, ◌<◌};
 ghost use Rattle.numbering.specs.State.{mk};
 ghost use Rattle.run_values.specs.Need.{went, need_of};
