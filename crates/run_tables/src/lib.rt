@@ -1,5 +1,6 @@
 // A run: values, energy, the true bad states, the verdict; or the refusal.
 #![tactic(auto)]
+
 ghost use Rattle.std.specs.Prelude.{◌≡◌, List, ◌++◌, ℕ, ◌+◌, ◌*◌, ◌-◌, ◌≤◌, ◌<◌, length, take, replicate};
 ghost use Rattle.circuit.specs.Meaning.{circuit_of};
 ghost use Rattle.numbering.specs.State.{mk};

@@ -1,4 +1,4 @@
-use Rattle.std.proofs.Common.{◌-◌, arith, sym, ap, ◌∙◌}
+use Rattle.std.proofs.Common.{arith, sym, ap, ◌∙◌}
 use Rattle.run_tables.proofs.Trues.{listed_start, listed-on, listed-skip, listed-end}
 use Rattle.run_rules.specs.Code.{name_in}
 use Rattle.run_values.specs.Need.{is_true}

@@ -1,4 +1,4 @@
-use Rattle.std.proofs.Common.{drop_of_length-le, ◌-◌, arith, sym, ap, ◌∙◌}
+use Rattle.std.proofs.Common.{drop_of_length-le, arith, sym, ap, ◌∙◌}
 use lib.ListN.{length-map}
 use Rattle.run_values.proofs.Means.{bad-gate}
 use Rattle.run_rules.specs.Code.{name_in}

@@ -1,4 +1,4 @@
-use Rattle.std.proofs.Common.{◌-◌, arith, refl, sym, ◌∙◌}
+use Rattle.std.proofs.Common.{arith, refl, sym, ◌∙◌}
 use Rattle.run_meaning.proofs.Left.{left-start, left_as, left-asked, left-on, left-stop, left_end, marked-on, marked-skip, marked-done}
 use Rattle.run_meaning.proofs.needs.need_linear.Goals as goal
 

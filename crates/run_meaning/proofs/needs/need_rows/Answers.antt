@@ -1,4 +1,4 @@
-use Rattle.std.proofs.Common.{take, ◌-◌, arith, refl, sym, ◌∙◌}
+use Rattle.std.proofs.Common.{take, arith, refl, sym, ◌∙◌}
 use Rattle.run_meaning.proofs.Rows.{rest-start}
 use Rattle.run_meaning.proofs.Rows.{turns}
 use Rattle.run_meaning.proofs.Left.{left-start, left_as, left-asked, left-on, left-stop, left_end}
