@@ -7,19 +7,20 @@ use native.Mathlib.Numerals.{add-one}
 use native.Mathlib.Omega.{arith}
 use lib.IntN.{ℤ, pos, negsuc, nat_abs, ◌+ℤ◌, +ℤ_assoc, +ℤ_idl, +ℤ_idr}
 use lib.ListN.{length, take, drop, set, get_or, length-set, take-append-drop, drop_of_length-le}
-use lib.Seq.{slice, slice-cons, slice_empty, take-suc-set, drop-set-lt, drop-cons, append_snoc, take_all, length-take-le}
+use lib.Seq.{slice, slice-cons, slice_empty, take-suc-set, drop-set-lt, drop-cons, append_snoc, take_all, take-length, length-take-le}
 use mir.Syntax.{w64}
 use mir.Val.{SFits}
 use Rattle.laws.specs.Abs.{abs-add, fits-abs}
 use Rattle.laws.specs.Sum.{sum}
 use Rattle.energy.specs.Model.{Entry, Model, Inside, low, high, half, quarter, weights, quarters, ends, ising, join_linear, sizes}
-use Rattle.energy.specs.Mass.{sizes-gain, sizes-quarters, abs-quarter}
+use Rattle.energy.specs.Mass.{sizes-gain, sizes-quarters, sizes-sum, abs-half, abs-quarter}
 use Rattle.energy.specs.Sized.{turned}
 use Rattle.store_pairs.specs.Store.{zip, none, load, over}
 use Rattle.store_pairs.specs.Over.{over-more}
 use Rattle.store_pairs.proofs.Tables.{length-zip, zip-at, zip-take, zip-weight, weights-zip, slice_set}
+use Rattle.store.specs.declared.Totals.{Totals}
 use Rattle.store.specs.Tables.{tables, model_of, hold, with_linear}
-use Rattle.store_ising.specs.Turning.{join_ends}
+use Rattle.store_ising.specs.Turning.{join_ends, Turning}
 
 -- ---- quarters fit
 
@@ -248,6 +249,33 @@ pub weights-used : (ks : List ℕ) (ws : List ℤ) (n : ℕ) → length ws ≡ l
 weights-used ks ws n even fits =
     ap weights (sym (zip-take n ks ws))
     ∙ weights-zip (take n ks) (take n ws) (length-take-le n ws (omega arith) ∙ sym (length-take-le n ks fits))
+
+-- the two sums, and the offset with their half and their quarter, are in range
+module _ {l : List ℤ} {h ks : List ℕ} {ws : List ℤ} {t : Totals} (r : Turning l h ks ws t) where
+  pub weights-small : sizes (take t.count ws) ≤ 2 ^ 40
+  weights-small = omega (arith, r.small, ap sizes (weights-used ks ws t.count r.even r.used))
+
+  pub offset-fits : SFits w64 t.offset
+  offset-fits = fits-abs w64 _ (omega (arith, r.small))
+
+  module _ {a b : ℤ} (p : a ≡ sum (take (length l) l)) (q : b ≡ sum (take t.count ws)) where
+    a-is : a ≡ sum l
+    a-is = p ∙ ap sum (take-length l)
+
+    a_small : nat_abs (half a) ≤ 2 ^ 40
+    a_small = omega (arith, abs-half a, ap nat_abs a-is, sizes-sum l, r.small)
+
+    b-small : nat_abs (quarter b) ≤ 2 ^ 40
+    b-small = omega (arith, abs-quarter b, ap nat_abs q, sizes-sum (take t.count ws), weights-small)
+
+    pub sum-fits : SFits w64 (t.offset +ℤ half a)
+    sum-fits = fits-abs w64 _ (omega (arith, abs-add t.offset (half a), a_small, r.small))
+
+    pub all-fits : SFits w64 (t.offset +ℤ half a +ℤ quarter b)
+    all-fits = fits-abs w64 _ (omega (arith, abs-add t.offset (half a), abs-add (t.offset +ℤ half a) (quarter b), a_small, b-small, r.small))
+
+    pub offset-is : t.offset +ℤ half a +ℤ quarter b ≡ t.offset +ℤ half (sum l) +ℤ quarter (sum (take t.count ws))
+    offset-is = ap₂ (λ (x y : ℤ). t.offset +ℤ half x +ℤ quarter y) a-is q
 
 pub all-turned : (o o' : ℤ) (l l₁ l₂ : List ℤ) (h h₂ r f ks : List ℕ) (ws ws' : List ℤ) (n : ℕ) → length ws ≡ length ks → n ≤ length ks
     → o' ≡ o +ℤ half (sum l) +ℤ quarter (sum (take n ws)) → l₁ ≡ map half l

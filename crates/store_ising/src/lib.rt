@@ -1,5 +1,6 @@
 // The Ising form. Each pair stands once in the tables, and is turned once.
 #![tactic(auto)]
+
 ghost use Rattle.std.specs.Prelude.{List, map, ◌≡◌, ℕ, ◌+◌, ◌^◌, ◌<◌, ◌≤◌, pos, length, take, set, get_or};
 ghost use Rattle.laws.specs.Sum.{sum};
 ghost use Rattle.energy.specs.Model.{Model, low, high, half, quarter, quarters, ends, ising, sizes};

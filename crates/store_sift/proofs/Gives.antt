@@ -11,7 +11,11 @@ use lib.IntN.{ℤ, pos, nat_abs, ◌+ℤ◌, +ℤ_idr}
 use lib.ListN.{length, take, drop, set, get_or}
 use lib.Seq.{take-suc-set, drop-set-lt}
 use borrow.Author.Tests.{eq-eqb, ne_eqb}
-use Rattle.laws.specs.Abs.{abs-add}
+use mir.Syntax.{w64}
+use mir.Val.{SFits, to_z, of_z}
+use mir.Facts.{to_z-of_z}
+use lib.Signed.{mag}
+use Rattle.laws.specs.Abs.{abs-add, fits-abs}
 use Rattle.energy.specs.Model.{Entry, Model, low, high, gated, add_linear, add_offset, mass}
 use Rattle.energy.specs.Mass.{sizes-at, abs-gated, offset-within}
 use Rattle.energy.specs.Once.{enter, keep, sift, mass-sift}
@@ -35,6 +39,10 @@ free-low f k e = rw (eq-eqb (get_or f (low k) 0) 0 e)
 
 pub not_free : (f : List ℕ) (k : ℕ) → (get_or f (low k) 0 ≡ 0 → ⊥) → false ≡ free_by f k
 not_free f k n = rw (ne_eqb (get_or f (low k) 0) 0 n)
+
+-- a product that goes through a local, of a weight that did
+pub read_back : {r w : ℤ} (b : Bool) → mag r < 2 ^ 63 → SFits w64 w → r ≡ gated b (to_z w64 (of_z w64 w)) → to_z w64 (of_z w64 r) ≡ gated b w
+read_back {r} {w} b small fits e = to_z-of_z {w = w64} (record { sfits = small }) ∙ e ∙ ap (gated b) (to_z-of_z fits)
 
 -- ---- a pair with a fixed end
 
@@ -80,6 +88,12 @@ module _ {q : ℕ} {t : Totals} {l : List ℤ} {h r f : List ℕ} (e : MayEnter 
   enter-small =
       let c : ℤ = get_or l q (pos 0) in
       omega (arith, abs-add t.offset (gated on c), abs-gated on c, sizes-at l q, e.small)
+
+  pub offset-fits : SFits w64 t.offset
+  offset-fits = fits-abs w64 _ (omega (arith, e.small))
+
+  pub enter-fits : {g : ℤ} → g ≡ gated on (get_or l q (pos 0)) → SFits w64 (t.offset +ℤ g)
+  enter-fits {g} eg = fits-abs w64 _ (omega (arith, enter-small, ap (λ (z : ℤ). nat_abs (t.offset +ℤ z)) eg))
 
   pub entered : (g o : ℤ) (mark : ℕ) {l' : List ℤ} {h' : List ℕ} → g ≡ gated on (get_or l q (pos 0)) → o ≡ t.offset +ℤ g → l' ≡ set l q (pos 0) → h' ≡ set h q 0 → mark ≡ cond on 2 1
       → (s : List Entry) → model_by o l' h' (set r q 0) (set f q mark) s ≡ enter q on (model_by t.offset l h r f s)

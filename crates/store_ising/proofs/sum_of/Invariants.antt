@@ -1,10 +1,10 @@
 -- `store_ising::sum_of` meets its contract: what is summed and what is left is the whole (`Turns`).
-use Rattle.std.proofs.Common.{◌-◌, w64, to_z}
+use Rattle.std.proofs.Common.{◌-◌}
 use Rattle.store_ising.proofs.Turns.{Summing}
 use Rattle.store_ising.proofs.sum_of.Given as goal
 
 abbrev pub invariant-loop-i : goal.invariant-loop-i
-invariant-loop-i l = Summing l.cs l.n l.i (to_z w64 l.s)
+invariant-loop-i l = Summing l.cs l.n l.i l.s
 
 abbrev pub decreases-loop-i : goal.decreases-loop-i
 decreases-loop-i l = l.n - l.i

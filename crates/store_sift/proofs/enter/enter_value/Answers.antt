@@ -1,37 +1,17 @@
 -- `enter::enter_value` meets its contract (`Gives`). The two numbers of the sum go through locals.
-use Rattle.std.proofs.Common.{refl, ap, arith, ℤ, nat_abs, ◌+ℤ◌, w64, SFits, to_z-of_z}
-use Rattle.laws.specs.Abs.{fits-abs}
-use Rattle.store_sift.proofs.Gives.{enter-small, entered}
+use Rattle.std.proofs.Common.{refl, ◌+ℤ◌, w64, SFits, to_z-of_z}
+use Rattle.store_sift.proofs.Gives.{offset-fits, enter-fits, entered}
 use Rattle.store_sift.proofs.enter.enter_value.Goals as goal
 
--- the sum is in range
-module _ (c : goal.After-struct_told-1) where
-  abbrev cleared : tie.After-clear-linear
-  cleared = c
-
-  abbrev start : tie.Start
-  start = cleared.before.before.before.before.before.before.before.before
-
-  abbrev old : ℤ
-  old = start.args.t.offset
-
-  abbrev gift : ℤ
-  gift = cleared.clear-linear.result
-
-  old-fits : SFits w64 old
-  old-fits = fits-abs w64 _ (omega (arith, start.pre.small))
-
-  gift-fits : SFits w64 gift
-  gift-fits = record { sfits = cleared.clear-linear.ok }
-
-  sum_fits : SFits w64 (old +ℤ gift)
-  sum_fits =
-      fits-abs w64 _ (omega (arith, enter-small start.pre start.args.on, ap (λ (z : ℤ). nat_abs (old +ℤ z)) cleared.clear-linear.ensures.0))
-
 pub overflow_add-offset : goal.overflow_add-offset
-overflow_add-offset c = simp (to_z-of_z (old-fits c), to_z-of_z (gift-fits c)) (sum_fits c)
+overflow_add-offset c =
+    let clear = c.clear_linear-given in
+    let gift-fits : SFits w64 clear.result = record { sfits = clear.type_inv } in
+    simp (to_z-of_z (offset-fits c.requires c.args.on), to_z-of_z gift-fits) (enter-fits c.requires c.args.on clear.ensures.value)
 
 pub returns : goal.returns
 returns c =
-    let clear = (cleared c).clear-linear in
-    (refl, entered (start c).requires (start c).args.on (gift c) _ _ clear.ensures.0 (simp (to_z-of_z (old-fits c), to_z-of_z (gift-fits c), to_z-of_z (sum_fits c))) clear.ensures.1.0 clear.ensures.1.1 (cleared c).before.before.before.mark_of.ensures)
+    let clear = c.clear_linear-given in
+    let gift-fits : SFits w64 clear.result = record { sfits = clear.type_inv } in
+    let sum-fits : SFits w64 (c.args.t.offset +ℤ clear.result) = enter-fits c.requires c.args.on clear.ensures.value in
+    (refl, entered c.requires c.args.on clear.result _ _ clear.ensures.value (simp (to_z-of_z (offset-fits c.requires c.args.on), to_z-of_z gift-fits, to_z-of_z sum-fits)) clear.ensures.linear_after clear.ensures.present_after c.mark_of-mark.ensures)

@@ -4,7 +4,7 @@ use Rattle.store_sift.proofs.Passing.{Passing}
 use Rattle.store_sift.proofs.sift.sift_all.Given as goal
 
 abbrev pub invariant-loop-i : goal.invariant-loop-i
-invariant-loop-i l = 
+invariant-loop-i l =
     Passing l.fixed l.initial.linear l.initial.present l.initial.keys l.initial.weights (record { offset = l.initial.t.offset; count = l.n }) l.linear l.present l.keys l.weights l.t l.i
 
 abbrev pub decreases-loop-i : goal.decreases-loop-i
