@@ -96,11 +96,6 @@ module _ (c : List ℕ) (kind last : ℕ) (h : Ends c kind last) where
 
   -- the same laws, by the code's test
   module _ {n next : ℕ} {starts : List ℕ} (s : Starting c kind last n next starts) (u : n < records c) {k a : ℕ} (i : k ≡ kind_byte c n) (j : a ≡ field c n 0) where
-    pub next_small : (eqb k kind && eqb a next) ≡ true → next < 64
-    next_small e =
-        let t = is-new c n i j e in
-        omega (arith, t.1, h.numbered.small n u t.0)
-
     pub turn-new : (eqb k kind && eqb a next) ≡ true → Starting c kind last (n + 1) (next + 1) (set starts next n)
     turn-new e = let t = is-new c n i j e in starting-new n next starts s u t.0 t.1
 

@@ -1,19 +1,15 @@
 -- What the functions of `partner` read is within the bytes and the marks, and what they answer. Assumes nothing.
 use Prim.Native.Nat.{ℕ, ◌≤◌, ◌<◌, ◌+◌, ◌*◌}
 use mathlib.Core.Path.{◌≡◌, sym, ◌∙◌}
-use mathlib.Core.Bool.{true, false, not, ◌||◌}
+use mathlib.Core.Bool.{true, not, ◌||◌}
 use mathlib.Core.List.{List}
 use native.Mathlib.Omega.{arith}
-use borrow.Author.Tests.{eqb-true, eq-eqb, ne_eqb}
+use borrow.Author.Tests.{eq-eqb}
 use lib.Dec.{eqb}
 use lib.ListN.{length, get_or, set}
 use Rattle.circuit.specs.File.{records, kind_byte, field, count_of}
-use Rattle.circuit.specs.Count.{by-test}
 use Rattle.circuit.specs.Partner.{wrong_input}
 use Rattle.circuit.specs.Marks.{Timely, gates-within, input-gate, carry-early, Marks, marks-more, marks-other}
-
-pub carry-small : (k : ℕ) → (eqb k 8 || eqb k 10) ≡ true → k ≤ 10
-carry-small k e = by-test (eqb k 8) (λ f. omega (arith, eqb-true k 8 f)) (λ f. omega (arith, eqb-true k 10 (rw f at e)))
 
 module _ (c : List ℕ) (t : Timely c) (n : ℕ) (u : n < records c) {kind : ℕ} (k : kind ≡ kind_byte c n) where
   pub adder-inside : {x : ℕ} → x ≡ field c n 0 → (eqb kind 8 || eqb kind 10) ≡ true → 16 * (x + 1) ≤ length c
@@ -27,9 +23,6 @@ module _ (c : List ℕ) (t : Timely c) (n : ℕ) (u : n < records c) {kind : ℕ
   pub input-by : kind ≡ 23 → {marks : List ℕ} → Marks c n marks → {g gate : ℕ} → g ≡ field c n 1 → gate ≡ kind_byte c g → (not (eqb gate 2) || not (eqb (get_or marks g 0) 0)) ≡ wrong_input c n
   input-by e m i a =
       rw (a, m.listed _ (input-small e i).1, i, eq-eqb (kind_byte c n) 23 (sym k ∙ e))
-
-  pub input-not : (kind ≡ 23 → ⊥) → false ≡ wrong_input c n
-  input-not e = rw (ne_eqb (kind_byte c n) 23 (λ z. e (k ∙ z)))
 
   pub marked : kind ≡ 23 → {marks : List ℕ} → Marks c n marks → {g : ℕ} → g ≡ field c n 1 → Marks c (n + 1) (set marks g 1)
   marked e m i = marks-more c m (sym k ∙ e) i (input-small e i).1
