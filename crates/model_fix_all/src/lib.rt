@@ -1,5 +1,6 @@
 // All fixes of a build: each value is entered, up to the first clash, and one pass over the pairs does the rest.
 #![tactic(auto)]
+
 ghost use Rattle.std.specs.Prelude.{[], ◌+◌, ◌<◌, length};
 ghost use Rattle.store.specs.Tables.{tables, model_of};
 ghost use Rattle.store_sift.specs.Sifting.{model_by};

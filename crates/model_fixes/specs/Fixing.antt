@@ -29,7 +29,7 @@ use Rattle.model_fixes.specs.declared.Fixed.{Fixed}
 use Rattle.model_fixes.specs.declared.Fixed.TheVariants.{Done, Clash as Clashes}
 use Rattle.model_fixes.specs.Order.{joined_qubit, fixes_of}
 use Rattle.model_rows.specs.Laid.{no_constraint}
-use Rattle.model_rows.specs.Rowed.{Has, inside}
+use Rattle.model_rows.specs.Rowed.{Has}
 use Rattle.store.specs.Full.{full, step-full}
 
 -- the tables hold the model m, with pair tables of k entries

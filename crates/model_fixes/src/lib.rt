@@ -1,5 +1,6 @@
 // Which qubits a build fixes, in fixing order: the joined qubit true, constraints in order, 1 true, 0 false.
 #![tactic(auto)]
+
 ghost use Rattle.std.specs.Prelude.{[], ◌≡◌, ◌+◌, ◌<◌, get_or};
 ghost use Rattle.circuit.specs.Meaning.{circuit_of};
 ghost use Rattle.numbering.specs.State.{mk};

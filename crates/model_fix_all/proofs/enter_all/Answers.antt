@@ -1,7 +1,5 @@
-use Rattle.std.proofs.Common.{◌≡◌, sym, ◌∙◌, List, [], ℕ, ◌+◌, ◌-◌, ◌<◌, arith, length}
-use Rattle.energy.specs.Model.{Sized}
-use Rattle.store_sift.specs.Sifting.{model_by}
-use Rattle.model_fixes.specs.Fixing.{Reading, fixes_by, fixes-count, none-entered, sized-now, in-fixed, may-enter, stops, goes_on, all-entered}
+use Rattle.std.proofs.Common.{sym, ◌∙◌, List, ℕ, ◌+◌, ◌<◌, arith, length}
+use Rattle.model_fixes.specs.Fixing.{Reading, fixes_by, fixes-count, none-entered, in-fixed, may-enter, stops, goes_on, all-entered}
 use Rattle.model_fix_all.proofs.enter_all.Goals as goal
 
 more_left : {b : List ℕ} {bads constraints : ℕ} {qs : List ℕ} {next states count k : ℕ} → Reading b bads constraints qs next states count → k < count + 3 → k < length (fixes_by b qs next)
