@@ -5,7 +5,7 @@ use Rattle.cases_answer.proofs.Behind.{too_long, model-behind, run-behind}
 use Rattle.cases_answer.proofs.put_answer.Goals as goal
 
 pub returns-then-length-gt-LIMIT : goal.returns-then-length-gt-LIMIT
-returns-then-length-gt-LIMIT c = (printed-as (too_long _ _ _ c.if-length-gt-LIMIT.true) c.print_refusal.ensures.0, omega (arith, c.print_refusal.ensures.1))
+returns-then-length-gt-LIMIT c = record { printed = printed-as (too_long _ _ _ c.if-length-gt-LIMIT.true) c.print_refusal.ensures.printed; upper_bound = omega (arith, c.print_refusal.ensures.upper_bound) }
 
 pub slice_bounds-put_model-end : goal.slice_bounds-put_model-end
 slice_bounds-put_model-end c = simp length-take (omega arith)
@@ -14,7 +14,7 @@ pub slice_bounds-put_given-end : goal.slice_bounds-put_given-end
 slice_bounds-put_given-end c = simp length-take (omega arith)
 
 pub returns-in-Model : goal.returns-in-Model
-returns-in-Model c = (printed-as (model-behind _ _ _ _ c.if-length-gt-LIMIT.false c.in-Model.is c.lesser-end.ensures) c.put_model.ensures.0, omega (arith, c.put_model.ensures.1))
+returns-in-Model c = record { printed = printed-as (model-behind _ _ _ _ c.if-length-gt-LIMIT.false c.in-Model.is c.lesser-end.ensures) c.put_model.ensures.printed; upper_bound = omega (arith, c.put_model.ensures.upper_bound) }
 
 pub returns-in-Run : goal.returns-in-Run
-returns-in-Run c = (printed-as (run-behind _ _ _ _ c.if-length-gt-LIMIT.false c.in-Run.is c.lesser-end.ensures) c.put_given.ensures.0, omega (arith, c.put_given.ensures.1))
+returns-in-Run c = record { printed = printed-as (run-behind _ _ _ _ c.if-length-gt-LIMIT.false c.in-Run.is c.lesser-end.ensures) c.put_given.ensures.printed; upper_bound = omega (arith, c.put_given.ensures.upper_bound) }

@@ -6,4 +6,4 @@ use Rattle.cases_answer.proofs.put_ran.Goals as goal
 
 pub returns : goal.returns
 unfolding run_answer
-returns c = (printed-as (ap run_says (sym c.run_fresh-r.ensures)) c.put_run.ensures.0, c.put_run.ensures.1)
+returns c = record { printed = printed-as (ap run_says (sym c.run_fresh-r.ensures)) c.put_run.ensures.printed; upper_bound = c.put_run.ensures.upper_bound }

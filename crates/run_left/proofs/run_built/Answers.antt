@@ -6,17 +6,18 @@ use Rattle.run_outcome.specs.declared.Run.{Run}
 use Rattle.run_meaning.specs.Ran.{done}
 use Rattle.run_left.specs.Evaluated.{ran_by}
 use Rattle.run_left.proofs.run_built.Goals as goal
+use Rattle.run_left.proofs.run_built.Goals.{Start}
 
 -- the tables of the build
-abbrev tables : tie.Start → Tables
+abbrev tables : Start → Tables
 tables s =
-    lent s.args.qubits.now s.args.origins.now s.args.roles.now s.args.linear.now s.args.has-linear.now s.args.has-row.now
+    lent s.args.qubits.now s.args.origins.now s.args.roles.now s.args.linear.now s.args.has_linear.now s.args.has_row.now
     s.args.fixed.now
     s.args.keys.now
     s.args.weights.now
 
 -- what a run answers, by the build's answer
-same : (s : tie.Start) (x : Built) → s.args.built ≡ x
+same : (s : Start) (x : Built) → s.args.built ≡ x
     → ran_by s.args.circuit.now s.args.inputs.now s.args.values.now (tables s) x ≡ ran_by s.args.circuit.now s.args.inputs.now s.args.values.now (tables s) s.args.built
 same s x e = ap (ran_by s.args.circuit.now s.args.inputs.now s.args.values.now (tables s)) (sym e)
 

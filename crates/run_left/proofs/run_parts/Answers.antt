@@ -5,15 +5,16 @@ use Rattle.qubot_left.specs.Built.{Tables, lent}
 use Rattle.qubot_left.specs.Left.{names-counted}
 use Rattle.run_left.specs.Left.{names-few, from-few, gates-part, names-part, ready, runs_as}
 use Rattle.run_left.proofs.run_parts.Goals as goal
+use Rattle.run_left.proofs.run_parts.Goals.{Start}
 
 -- the counts are small
-few : (s : tie.Start) → 3 * s.args.k.gates + s.args.k.bad_states + 1 ≤ 65536
+few : (s : Start) → 3 * s.args.k.gates + s.args.k.bad_states + 1 ≤ 65536
 few s = names-few s.requires.0 s.args.k s.requires.1
 
 -- the tables as they were lent
-abbrev lent_of : tie.Start → Tables
+abbrev lent_of : Start → Tables
 lent_of s =
-    lent s.args.qubits.now s.args.origins.now s.args.roles.now s.args.linear.now s.args.has-linear.now s.args.has-row.now
+    lent s.args.qubits.now s.args.origins.now s.args.roles.now s.args.linear.now s.args.has_linear.now s.args.has_row.now
     s.args.fixed.now
     s.args.keys.now
     s.args.weights.now
@@ -43,10 +44,10 @@ pub slice_bounds-run_on-end-6 : goal.slice_bounds-run_on-end-6
 slice_bounds-run_on-end-6 c = sym (length-take-le c.args.f.names c.args.linear.now (omega (arith, c.requires.0.names, c.requires.0.linear)))
 
 pub slice_bounds-run_on-end-7 : goal.slice_bounds-run_on-end-7
-slice_bounds-run_on-end-7 c = names-part c.requires.0 c.args.k c.requires.1 c.args.has-linear.now c.requires.0.has_linear
+slice_bounds-run_on-end-7 c = names-part c.requires.0 c.args.k c.requires.1 c.args.has_linear.now c.requires.0.has_linear
 
 pub slice_bounds-run_on-end-8 : goal.slice_bounds-run_on-end-8
-slice_bounds-run_on-end-8 c = names-part c.requires.0 c.args.k c.requires.1 c.args.has-row.now c.requires.0.has_row
+slice_bounds-run_on-end-8 c = names-part c.requires.0 c.args.k c.requires.1 c.args.has_row.now c.requires.0.has_row
 
 pub slice_bounds-run_on-end-9 : goal.slice_bounds-run_on-end-9
 slice_bounds-run_on-end-9 c = names-part c.requires.0 c.args.k c.requires.1 c.args.fixed.now c.requires.0.fixed

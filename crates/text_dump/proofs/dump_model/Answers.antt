@@ -5,70 +5,44 @@ use Rattle.text_left.specs.declared.Dumped.{Dumped}
 use Rattle.text_left.specs.Dumped.{printed_by, dumped, by-build}
 use Rattle.text_left.specs.Left.{LeftBy, left_by}
 use Rattle.text_dump.proofs.dump_model.Goals as goal
+use Rattle.text_dump.proofs.dump_model.Goals.{After-build-built}
 
 -- the tables as they were lent
-abbrev entered : tie.Start → Tables
+abbrev entered : After-build-built → Tables
 entered s =
-    lent s.args.qubits.now s.args.origins.now s.args.roles.now s.args.linear.now s.args.has-linear.now s.args.has-row.now
+    lent s.args.qubits.now s.args.origins.now s.args.roles.now s.args.linear.now s.args.has_linear.now s.args.has_row.now
     s.args.fixed.now
     s.args.keys.now
     s.args.weights.now
 
 -- the tables as the build left them
-abbrev left : tie.After-build → Tables
+abbrev left : After-build-built → Tables
 left m =
-    lent m.build.new.1.1.0 m.build.new.1.1.1.0 m.build.new.1.1.1.1.0 m.build.new.1.1.1.1.1.0 m.build.new.1.1.1.1.1.1.0
-    m.build.new.1.1.1.1.1.1.1.0
-    m.build.new.1.1.1.1.1.1.1.1.0
-    m.build.new.1.1.1.1.1.1.1.1.1.0
-    m.build.new.1.1.1.1.1.1.1.1.1.1.0
+    lent m.build-built.new.qubits m.build-built.new.origins m.build-built.new.roles m.build-built.new.linear m.build-built.new.has_linear
+    m.build-built.new.has_row
+    m.build-built.new.fixed
+    m.build-built.new.keys
+    m.build-built.new.weights
 
 -- those of them that are printed
-abbrev printed : tie.After-build → Tables
+abbrev printed : After-build-built → Tables
 printed m =
-    lent m.build.new.1.1.0 [] [] m.build.new.1.1.1.1.1.0 m.build.new.1.1.1.1.1.1.0 []
-    m.build.new.1.1.1.1.1.1.1.1.0
-    m.build.new.1.1.1.1.1.1.1.1.1.0
-    m.build.new.1.1.1.1.1.1.1.1.1.1.0
+    lent m.build-built.new.qubits [] [] m.build-built.new.linear m.build-built.new.has_linear []
+    m.build-built.new.fixed
+    m.build-built.new.keys
+    m.build-built.new.weights
 
 -- what follows from the build's answer
-fit : (m : tie.After-build) → LeftBy (start m).args.circuit.now (printed m) m.build.result
-fit m = left_by (start m).args.circuit.now (start m).args.form (entered (start m)) (left m) m.build.result m.build.ensures
+fit : (m : After-build-built) → LeftBy m.args.circuit.now (printed m) m.build-built.result
+fit m = left_by m.args.circuit.now m.args.form (entered m) (left m) m.build-built.result m.build-built.ensures
 
-answered : (m : tie.After-build) (w : List ℕ × Dumped) → w ≡ printed_by (start m).args.circuit.now (start m).args.buf.now (printed m) m.build.result
-    → (left m, w) ≡ dumped (start m).args.circuit.now (start m).args.form (entered (start m)) (start m).args.buf.now
+answered : (m : After-build-built) (w : List ℕ × Dumped) → w ≡ printed_by m.args.circuit.now m.args.buf.now (printed m) m.build-built.result
+    → (left m, w) ≡ dumped m.args.circuit.now m.args.form (entered m) m.args.buf.now
 answered m w e =
-    by-build (start m).args.circuit.now (start m).args.form (entered (start m)) (left m) (start m).args.buf.now m.build.result w m.build.ensures e
+    by-build m.args.circuit.now m.args.form (entered m) (left m) m.args.buf.now m.build-built.result w m.build-built.ensures e
 
 pub print_built-requires : goal.print_built-requires
-print_built-requires c = fit (goal.at.print_built-requires c).After-build-arg-4-1
-
-pub shape_of-qubits : goal.shape_of-qubits
-shape_of-qubits c = c.build-built.auto.qubits
-
-pub shape_of-origins : goal.shape_of-origins
-shape_of-origins c = c.build-built.auto.origins
-
-pub shape_of-roles : goal.shape_of-roles
-shape_of-roles c = c.build-built.auto.roles
-
-pub shape_of-linear : goal.shape_of-linear
-shape_of-linear c = c.build-built.auto.linear
-
-pub shape_of-has_linear : goal.shape_of-has_linear
-shape_of-has_linear c = c.build-built.auto.has_linear
-
-pub shape_of-has_row : goal.shape_of-has_row
-shape_of-has_row c = c.build-built.auto.has_row
-
-pub shape_of-fixed : goal.shape_of-fixed
-shape_of-fixed c = c.build-built.auto.fixed
-
-pub shape_of-keys : goal.shape_of-keys
-shape_of-keys c = c.build-built.auto.keys
-
-pub shape_of-weights : goal.shape_of-weights
-shape_of-weights c = c.build-built.auto.weights
+print_built-requires c = fit (goal.at.print_built-requires c).After-build-built
 
 pub returns : goal.returns
 returns c = answered (goal.at.returns c).After-build-built _ c.print_built.ensures

@@ -4,14 +4,15 @@ use Rattle.qubot_left.specs.declared.Built.{Built}
 use Rattle.qubot_left.specs.Built.{Tables, lent}
 use Rattle.text_left.specs.Dumped.{printed_by}
 use Rattle.text_left.proofs.print_built.Goals as goal
+use Rattle.text_left.proofs.print_built.Goals.{Start}
 
 -- the tables that are printed
-abbrev tables : tie.Start → Tables
+abbrev tables : Start → Tables
 tables s =
     lent s.args.qubits.now [] [] s.args.linear.now s.args.has.now [] s.args.fixed.now s.args.keys.now s.args.weights.now
 
 -- what is printed, by the build's answer
-same : (s : tie.Start) (x : Built) → s.args.built ≡ x
+same : (s : Start) (x : Built) → s.args.built ≡ x
     → printed_by s.args.circuit.now s.args.buf.now (tables s) x ≡ printed_by s.args.circuit.now s.args.buf.now (tables s) s.args.built
 same s x e = ap (printed_by s.args.circuit.now s.args.buf.now (tables s)) (sym e)
 

@@ -15,11 +15,11 @@ few c =
     names-few c.counts_of-counts.result c.requires c.counts_of-counts.ensures
 
 -- the text
-abbrev tables_of : tie.Start → Tables
+abbrev tables_of : After-text_length-length → Tables
 tables_of s =
     lent s.args.qubits.now [] [] s.args.linear.now s.args.has.now [] s.args.fixed.now s.args.keys.now s.args.weights.now
 
-abbrev the_text : tie.Start → List ℕ
+abbrev the_text : After-text_length-length → List ℕ
 the_text s = text_in s.args.circuit.now (tables_of s) s.args.f
 
 -- the length that the first pass told is the text's
@@ -41,15 +41,15 @@ pub text_length-length-requires : goal.text_length-length-requires
 text_length-length-requires c = printable c.requires c.counts_of-counts.ensures c.input_starts-starts.ensures (names-counted _ _ c.counts_of-counts.ensures)
 
 pub returns-then-buf-length : goal.returns-then-buf-length
-returns-then-buf-length c = too_short (the_text (goal.at.returns-then-buf-length c).Start) c.args.buf.now c.text_length-length.result (told (goal.at.returns-then-buf-length c).After-text_length-length) c.if-buf-length.true
+returns-then-buf-length c = too_short (the_text (goal.at.returns-then-buf-length c).After-text_length-length) c.args.buf.now c.text_length-length.result (told (goal.at.returns-then-buf-length c).After-text_length-length) c.if-buf-length.true
 
 pub print_model-requires : goal.print_model-requires
 print_model-requires c = printable c.requires c.counts_of-counts.ensures c.input_starts-starts.ensures (names-counted _ _ c.counts_of-counts.ensures)
 
 pub returns : goal.returns
 returns c =
-    let same = text-as c.args.circuit.now (tables_of (goal.at.returns c).Start) c.args.f _ _ (names-counted _ _ c.counts_of-counts.ensures) (to_z-of_z (fits-abs w64 _ c.requires.offset)) in
-    let fits : length (the_text (goal.at.returns c).Start) ≤ length c.args.buf.now =
+    let same = text-as c.args.circuit.now (tables_of (goal.at.returns c).After-text_length-length) c.args.f _ _ (names-counted _ _ c.counts_of-counts.ensures) (to_z-of_z (fits-abs w64 _ c.requires.offset)) in
+    let fits : length (the_text (goal.at.returns c).After-text_length-length) ≤ length c.args.buf.now =
     omega (arith, told (goal.at.returns c).After-text_length-length, c.if-buf-length.false) in
     let enough : c.text_length-length.result ≤ length c.args.buf.now = omega (arith, c.if-buf-length.false) in
-    long-enough (the_text (goal.at.returns c).Start) c.args.buf.now _ c.text_length-length.result (told (goal.at.returns c).After-text_length-length) enough (printed-whole (printed-as (sym same) c.print_model.ensures) fits)
+    long-enough (the_text (goal.at.returns c).After-text_length-length) c.args.buf.now _ c.text_length-length.result (told (goal.at.returns c).After-text_length-length) enough (printed-whole (printed-as (sym same) c.print_model.ensures) fits)
