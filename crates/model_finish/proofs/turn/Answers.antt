@@ -14,10 +14,3 @@ returns-in-Binary c =
     let t : Tables = tables a.t.offset a.linear.now a.present.now rs f a.keys.now a.weights.now a.t.count in
     hold-same t (omega (arith, length-zip a.keys.now a.weights.now c.requires.even, c.requires.used))
     ∙ ap (λ (x : Form). hold (in_form x (model_of t)) t) (sym c.in-Binary.is)
-
-pub returns-in-Ising : goal.returns-in-Ising
-returns-in-Ising c =
-    let a = c.args in
-    λ rs f.
-    let t : Tables = tables a.t.offset a.linear.now a.present.now rs f a.keys.now a.weights.now a.t.count in
-    c.to_ising.ensures rs f ∙ ap (λ (x : Form). hold (in_form x (model_of t)) t) (sym c.in-Ising.is)

@@ -1,5 +1,4 @@
 -- `model::place_model` meets its contract: the log of all rows, settled (`Modelled`).
-use Rattle.std.proofs.Common.{◌∙◌}
 use Rattle.numbering.specs.State.{mk}
 use Rattle.model.specs.Modelled.{settleable, settles}
 use Rattle.model.proofs.model.place_model.Goals as goal
