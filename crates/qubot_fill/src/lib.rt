@@ -1,5 +1,6 @@
 // The names and the finished model of a circuit that passed the checks, in tables of exactly the lengths of 7; or refusal 8 or 9, with all of them zeroed.
 #![tactic(auto)]
+
 ghost use Rattle.std.specs.Prelude.{◌≡◌};
 ghost use Rattle.circuit.specs.Meaning.{circuit_of};
 ghost use Rattle.qubot_fill.specs.Made.{make};

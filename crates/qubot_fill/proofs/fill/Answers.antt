@@ -9,13 +9,12 @@ pub number_names-ended-requires : goal.number_names-ended-requires
 number_names-ended-requires c = (c.requires.0, c.requires.1)
 
 pub fill_model-filled-requires : goal.fill_model-filled-requires
-fill_model-filled-requires c =
-    (
-      c.requires.0,
-      record { qubits = c.number_names-ended.auto.qubits ∙ c.requires.1.qubits; origins = c.number_names-ended.auto.origins ∙ c.requires.1.origins; roles = c.number_names-ended.auto.roles ∙ c.requires.1.roles },
-      c.requires.2,
-      c.number_names-ended.ensures,
-    )
+fill_model-filled-requires c = (
+  c.requires.0,
+  record { qubits = c.number_names-ended.auto.qubits ∙ c.requires.1.qubits; origins = c.number_names-ended.auto.origins ∙ c.requires.1.origins; roles = c.number_names-ended.auto.roles ∙ c.requires.1.roles },
+  c.requires.2,
+  c.number_names-ended.ensures,
+)
 
 pub shape_of-qubits-then-is_model : goal.shape_of-qubits-then-is_model
 shape_of-qubits-then-is_model c = c.number_names-ended.auto.qubits
