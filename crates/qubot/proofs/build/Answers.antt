@@ -7,11 +7,11 @@ use Rattle.qubot.proofs.build.Goals as goal
 
 pub fill_tables-filled-requires : goal.fill_tables-filled-requires
 fill_tables-filled-requires c =
-    let a = accepted-as c.args.circuit.now c.args.form (lent c.args.qubits.now c.args.origins.now c.args.roles.now c.args.linear.now c.args.has-linear.now c.args.has-row.now c.args.fixed.now c.args.keys.now c.args.weights.now) c.check-checked.ensures c.least_of-names.ensures c.lesser-pairs.ensures c.in-Accepted.is in
-    (record { sound = a.sound; counts = a.counts }, enough (lent c.args.qubits.now c.args.origins.now c.args.roles.now c.args.linear.now c.args.has-linear.now c.args.has-row.now c.args.fixed.now c.args.keys.now c.args.weights.now) a)
+    let a = accepted-as c.args.circuit.now c.args.form (lent c.args.qubits.now c.args.origins.now c.args.roles.now c.args.linear.now c.args.has_linear.now c.args.has_row.now c.args.fixed.now c.args.keys.now c.args.weights.now) c.check-checked.ensures c.least_of-names.ensures c.lesser-pairs.ensures c.in-Accepted.is in
+    (record { sound = a.sound; counts = a.counts }, enough (lent c.args.qubits.now c.args.origins.now c.args.roles.now c.args.linear.now c.args.has_linear.now c.args.has_row.now c.args.fixed.now c.args.keys.now c.args.weights.now) a)
 
 pub returns-in-Refused : goal.returns-in-Refused
-returns-in-Refused c = refused_as c.args.circuit.now c.args.form (lent c.args.qubits.now c.args.origins.now c.args.roles.now c.args.linear.now c.args.has-linear.now c.args.has-row.now c.args.fixed.now c.args.keys.now c.args.weights.now) c.check-checked.ensures c.least_of-names.ensures c.lesser-pairs.ensures c.in-Refused.is
+returns-in-Refused c = refused_as c.args.circuit.now c.args.form (lent c.args.qubits.now c.args.origins.now c.args.roles.now c.args.linear.now c.args.has_linear.now c.args.has_row.now c.args.fixed.now c.args.keys.now c.args.weights.now) c.check-checked.ensures c.least_of-names.ensures c.lesser-pairs.ensures c.in-Refused.is
 
 pub shape_of-qubits : goal.shape_of-qubits
 shape_of-qubits c = c.fill_tables-filled.auto.qubits
@@ -43,4 +43,4 @@ shape_of-weights c = c.fill_tables-filled.auto.weights
 pub returns-in-Accepted : goal.returns-in-Accepted
 returns-in-Accepted c =
     ap (λ (z : Built). (lent c.fill_tables-filled.new.qubits c.fill_tables-filled.new.origins c.fill_tables-filled.new.roles c.fill_tables-filled.new.linear c.fill_tables-filled.new.has_linear c.fill_tables-filled.new.has_row c.fill_tables-filled.new.fixed c.fill_tables-filled.new.keys c.fill_tables-filled.new.weights, z)) c.answer_of.ensures
-    ∙ built-as c.args.circuit.now c.args.form (lent c.args.qubits.now c.args.origins.now c.args.roles.now c.args.linear.now c.args.has-linear.now c.args.has-row.now c.args.fixed.now c.args.keys.now c.args.weights.now) c.check-checked.ensures c.least_of-names.ensures c.lesser-pairs.ensures c.in-Accepted.is c.fill_tables-filled.ensures
+    ∙ built-as c.args.circuit.now c.args.form (lent c.args.qubits.now c.args.origins.now c.args.roles.now c.args.linear.now c.args.has_linear.now c.args.has_row.now c.args.fixed.now c.args.keys.now c.args.weights.now) c.check-checked.ensures c.least_of-names.ensures c.lesser-pairs.ensures c.in-Accepted.is c.fill_tables-filled.ensures

@@ -41,13 +41,13 @@ pub slice_bounds-fill-end-9 : goal.slice_bounds-fill-end-9
 slice_bounds-fill-end-9 c = c.requires.1.has_linear
 
 pub slice_bounds-fill-end-10 : goal.slice_bounds-fill-end-10
-slice_bounds-fill-end-10 c = sym (length-take-le (names c.args.k) c.args.has-linear.now c.requires.1.has_linear)
+slice_bounds-fill-end-10 c = sym (length-take-le (names c.args.k) c.args.has_linear.now c.requires.1.has_linear)
 
 pub slice_bounds-fill-end-11 : goal.slice_bounds-fill-end-11
 slice_bounds-fill-end-11 c = c.requires.1.has_row
 
 pub slice_bounds-fill-end-12 : goal.slice_bounds-fill-end-12
-slice_bounds-fill-end-12 c = sym (length-take-le (names c.args.k) c.args.has-row.now c.requires.1.has_row)
+slice_bounds-fill-end-12 c = sym (length-take-le (names c.args.k) c.args.has_row.now c.requires.1.has_row)
 
 pub slice_bounds-fill-end-13 : goal.slice_bounds-fill-end-13
 slice_bounds-fill-end-13 c = c.requires.1.fixed
@@ -68,7 +68,7 @@ pub slice_bounds-fill-end-18 : goal.slice_bounds-fill-end-18
 slice_bounds-fill-end-18 c = sym (length-take-le (pairs c.args.k) c.args.weights.now c.requires.1.weights)
 
 pub fill-requires : goal.fill-requires
-fill-requires c = (c.requires.0, name-parts c.requires.0 {t = lent c.args.qubits.now c.args.origins.now c.args.roles.now c.args.linear.now c.args.has-linear.now c.args.has-row.now c.args.fixed.now c.args.keys.now c.args.weights.now} c.requires.1, model-parts c.requires.0 {t = lent c.args.qubits.now c.args.origins.now c.args.roles.now c.args.linear.now c.args.has-linear.now c.args.has-row.now c.args.fixed.now c.args.keys.now c.args.weights.now} c.requires.1)
+fill-requires c = (c.requires.0, name-parts c.requires.0 {t = lent c.args.qubits.now c.args.origins.now c.args.roles.now c.args.linear.now c.args.has_linear.now c.args.has_row.now c.args.fixed.now c.args.keys.now c.args.weights.now} c.requires.1, model-parts c.requires.0 {t = lent c.args.qubits.now c.args.origins.now c.args.roles.now c.args.linear.now c.args.has_linear.now c.args.has_row.now c.args.fixed.now c.args.keys.now c.args.weights.now} c.requires.1)
 
 pub shape_of-qubits : goal.shape_of-qubits
 shape_of-qubits c = length_front c.args.qubits.now c.fill.new.qubits c.args.k.gates c.fill.auto.qubits
@@ -83,10 +83,10 @@ pub shape_of-linear : goal.shape_of-linear
 shape_of-linear c = length_front c.args.linear.now c.fill.new.linear (names c.args.k) c.fill.auto.linear
 
 pub shape_of-has_linear : goal.shape_of-has_linear
-shape_of-has_linear c = length_front c.args.has-linear.now c.fill.new.present (names c.args.k) c.fill.auto.present
+shape_of-has_linear c = length_front c.args.has_linear.now c.fill.new.present (names c.args.k) c.fill.auto.present
 
 pub shape_of-has_row : goal.shape_of-has_row
-shape_of-has_row c = length_front c.args.has-row.now c.fill.new.rows (names c.args.k) c.fill.auto.rows
+shape_of-has_row c = length_front c.args.has_row.now c.fill.new.rows (names c.args.k) c.fill.auto.rows
 
 pub shape_of-fixed : goal.shape_of-fixed
 shape_of-fixed c = length_front c.args.fixed.now c.fill.new.fixed (names c.args.k) c.fill.auto.fixed
@@ -99,5 +99,5 @@ shape_of-weights c = length_front c.args.weights.now c.fill.new.weights (pairs c
 
 pub returns : goal.returns
 returns c =
-    fitted {k = c.args.k} (lent c.args.qubits.now c.args.origins.now c.args.roles.now c.args.linear.now c.args.has-linear.now c.args.has-row.now c.args.fixed.now c.args.keys.now c.args.weights.now) c.requires.1 (lent c.fill.new.qubits c.fill.new.origins c.fill.new.roles c.fill.new.linear c.fill.new.present c.fill.new.rows c.fill.new.fixed c.fill.new.keys c.fill.new.weights) c.fill.result c.fill.auto.qubits c.fill.auto.origins c.fill.auto.roles c.fill.auto.linear c.fill.auto.present c.fill.auto.rows c.fill.auto.fixed c.fill.auto.keys c.fill.auto.weights
-    ∙ ap (in_tables (lent c.args.qubits.now c.args.origins.now c.args.roles.now c.args.linear.now c.args.has-linear.now c.args.has-row.now c.args.fixed.now c.args.keys.now c.args.weights.now)) c.fill.ensures
+    fitted {k = c.args.k} (lent c.args.qubits.now c.args.origins.now c.args.roles.now c.args.linear.now c.args.has_linear.now c.args.has_row.now c.args.fixed.now c.args.keys.now c.args.weights.now) c.requires.1 (lent c.fill.new.qubits c.fill.new.origins c.fill.new.roles c.fill.new.linear c.fill.new.present c.fill.new.rows c.fill.new.fixed c.fill.new.keys c.fill.new.weights) c.fill.result c.fill.auto.qubits c.fill.auto.origins c.fill.auto.roles c.fill.auto.linear c.fill.auto.present c.fill.auto.rows c.fill.auto.fixed c.fill.auto.keys c.fill.auto.weights
+    ∙ ap (in_tables (lent c.args.qubits.now c.args.origins.now c.args.roles.now c.args.linear.now c.args.has_linear.now c.args.has_row.now c.args.fixed.now c.args.keys.now c.args.weights.now)) c.fill.ensures
