@@ -1,5 +1,6 @@
 // The last steps of a build: the form that is asked for, and the variable count.
 #![tactic(auto)]
+
 ghost use Rattle.std.specs.Prelude.{List, ◌≡◌, ℕ, length};
 ghost use Rattle.energy.specs.Finished.{in_form};
 ghost use Rattle.energy.specs.Model.{counted};
