@@ -1,6 +1,7 @@
 // The form of a stream of cases: what the head of a case asks for, the values behind its circuit, and the lines of an answer that no other program prints. What each function
 // answers is a definition of specs/, for every byte string and every buffer.
 #![tactic(auto)]
+
 pub mod heads;
 pub mod lines;
 pub mod numbers;

@@ -1,36 +1,30 @@
 -- What acceptance gives: of a file that the checks accept, the circuit is well formed, so that no later layer has to look at bytes again.
+-- The theorems that an edit of a definition breaks are in proofs/Accepted.antt.
 -- Assumes nothing.
-use Prim.Native.Nat.{ℕ, zero, suc, ◌+◌, ◌*◌, ◌≤◌, ◌<◌, ◌%◌}
-use Rattle.std.specs.Prelude.{◌≡◌, Bool, true, false, not, ◌&&◌, ◌||◌, List, [], ◌∷◌, ◌++◌, map, leb, ltb, eqb, length, get_or}
+use Prim.Native.Nat.{ℕ, zero, suc, ◌+◌, ◌*◌, ◌≤◌, ◌<◌}
+use Rattle.std.specs.Prelude.{◌≡◌, Bool, true, false, ◌&&◌, ◌||◌, List, [], ◌∷◌, ◌++◌, map, leb, eqb, length, get_or}
 use Rattle.std.proofs.Math.Path.{refl, subst}
-use Rattle.std.proofs.Common.{sym, ap, ◌∙◌, arith, zero-add, ltb-false, leb-true, leb-false, eqb-true, le-leb}
+use Rattle.std.proofs.Common.{sym, ap, ◌∙◌, arith, zero-add, leb-true, leb-false, eqb-true, le-leb}
 use Rattle.std.proofs.Math.Decide.{dec_le}
-use Rattle.std.proofs.lemmas.Bool.{eqb-false, not-false}
+use Rattle.std.proofs.lemmas.Bool.{not-false}
 use Rattle.std.proofs.Math.ListN.{length-map, get_or-eq_default}
 use Rattle.energy.specs.Circuit.{Gate, Bad, Constraint, Input, Circuit, Node, node, nodes_of, Before, AllBelow, IsAdder}
 use Rattle.energy.specs.Circuit.{ConstFalse, ConstTrue, InputBit, Not, And, Nand, Or, Matriarch1, CarryHalfAdder, CarryFullAdder, ResultHalfAdder, ResultFullAdder, Quotient, Remainder}
-use Rattle.circuit.specs.declared.Found.{Found}
-use Rattle.circuit.specs.declared.Found.TheVariants.{At, Nowhere}
+use Rattle.circuit.specs.declared.Found.TheVariants.{Nowhere}
 use Rattle.circuit.specs.declared.Counts.{Counts}
-use Rattle.circuit.specs.declared.Record.{Record}
-use Rattle.circuit.specs.declared.Refusal.{Refusal}
-use Rattle.circuit.specs.declared.Checked.{Checked}
-use Rattle.circuit.specs.declared.Checked.TheVariants.{Accepted}
 use Rattle.circuit.specs.File.{records, kind_byte, field, kind_of, kind_at, those, is_kind, places_of, count_of, is_bit_of, bits_of}
 use Rattle.circuit.specs.Search.{found_nowhere}
 use Rattle.circuit.specs.Count.{by-test, all_of, range, length-range, get_or-range, get_d_of}
 use Rattle.circuit.specs.Meaning.{list_of, gate_of, gate_at, bad_at, constraint_at, input_of, numbers_to, how_many, first_numbers, circuit_of}
-use Rattle.circuit.specs.Form.{first_broken, used_fields, times}
+use Rattle.circuit.specs.Form.{used_fields, times}
 use Rattle.circuit.specs.Passing.{neither}
 use Rattle.circuit.specs.Ordered.{gates-stand, gate-kinds}
 use Rattle.circuit.specs.Numbers.{Numbered, lists-numbered, inputs-numbered, bits-count}
 use Rattle.circuit.specs.Starts.{Regular}
-use Rattle.circuit.specs.Earlier.{named_by, not_below, first_late}
+use Rattle.circuit.specs.Earlier.{named_by, not_below}
 use Rattle.circuit.specs.Partner.{is_empty, wrong_adder, empty_list, wrong_input, wrong, first_wrong}
 use Rattle.circuit.specs.Marks.{Timely, early-at, gates-within, input-gate}
-use Rattle.circuit.specs.Limits.{regular, bads-of}
-use Rattle.circuit.specs.declared.Refusal.TheVariants.{Length, TooMany, Form, NotEarlier, Partner, NoBadState, Room}
-use Rattle.circuit.specs.Check.{counts_of, too_many, no_room, refuse, refuse_at, roomed, named, checked}
+use Rattle.circuit.specs.Check.{counts_of}
 
 -- A file that passed all checks but the last, 7.
 pub record Sound (c : List ℕ) : Type 0 where
@@ -404,61 +398,3 @@ pub record Accepts (c : List ℕ) (gates qubits pairs : ℕ) (n : Counts) : Type
   pub enough_gates : n.gates ≤ gates
   pub enough_qubits : 3 * n.gates + n.bad_states + 1 ≤ qubits
   pub enough_pairs : 10 * n.gates + 3 * n.bad_states ≤ pairs
-
-passed : (b : Bool) (r : Refusal) (x : Checked) (n : Counts) → refuse b r x ≡ Accepted n → (b ≡ false) × (x ≡ Accepted n)
-passed true r x n e = let z : ◌≡◌ {A = ℕ} 0 1 = cc in absurd (omega arith)
-passed false r x n e = (refl, e)
-
-passed-at-all : (f : Found) (r : Record → Refusal) (x : Checked) (n : Counts) → refuse_at f r x ≡ Accepted n → (f ≡ Nowhere) × (x ≡ Accepted n)
-passed-at-all (At m) r x n e = let z : ◌≡◌ {A = ℕ} 0 1 = cc in absurd (omega arith)
-passed-at-all Nowhere r x n e = (refl, e)
-
-taken_out : (k n : Counts) → Accepted k ≡ Accepted n → k ≡ n
-taken_out k n e = cc
-
-module _ (c : List ℕ) (gates qubits pairs : ℕ) (n : Counts) where
-  -- 6 and 7
-  roomed-accepts : (k : Counts) → roomed k gates qubits pairs ≡ Accepted n → (eqb k.bad_states 0 ≡ false) × (no_room k gates qubits pairs ≡ false) × (k ≡ n)
-  unfolding roomed
-  roomed-accepts k e =
-      let t6 = passed (eqb k.bad_states 0) NoBadState (refuse (no_room k gates qubits pairs) Room (Accepted k)) n e in
-      let t7 = passed (no_room k gates qubits pairs) Room (Accepted k) n t6.1 in
-      (t6.0, t7.0, taken_out k n t7.1)
-
-  -- 4 and 5
-  named-accepts : named c gates qubits pairs ≡ Accepted n → (first_late c ≡ Nowhere) × (first_wrong c ≡ Nowhere) × (roomed (counts_of c) gates qubits pairs ≡ Accepted n)
-  unfolding named
-  named-accepts e =
-      let t4 = passed-at-all (first_late c) NotEarlier (refuse_at (first_wrong c) Partner (roomed (counts_of c) gates qubits pairs)) n e in
-      let t5 = passed-at-all (first_wrong c) Partner (roomed (counts_of c) gates qubits pairs) n t4.1 in
-      (t4.0, t5.0, t5.1)
-
-  -- 1 to 3
-  checked-accepts : checked c gates qubits pairs ≡ Accepted n → (too_many (counts_of c) ≡ false) × (first_broken c ≡ Nowhere) × (named c gates qubits pairs ≡ Accepted n)
-  unfolding checked
-  checked-accepts e =
-      let t1 = passed (not (eqb (length c % 16) 0)) Length (refuse (too_many (counts_of c)) TooMany (refuse_at (first_broken c) Form (named c gates qubits pairs))) n e in
-      let t2 = passed (too_many (counts_of c)) TooMany (refuse_at (first_broken c) Form (named c gates qubits pairs)) n t1.1 in
-      let t3 = passed-at-all (first_broken c) Form (named c gates qubits pairs) n t2.1 in
-      (t2.0, t3.0, t3.1)
-
-  -- Where `checked` accepts, the file is sound and the tables have room.
-  pub accepts : checked c gates qubits pairs ≡ Accepted n → Accepts c gates qubits pairs n
-  accepts e =
-      let t3 = checked-accepts e in
-      let t5 = named-accepts t3.2 in
-      let t7 = roomed-accepts (counts_of c) t5.2 in
-      let same : counts_of c ≡ n = t7.2 in
-      let r7 = neither (ltb gates n.gates || ltb qubits (3 * n.gates + n.bad_states + 1)) (ltb pairs (10 * n.gates + 3 * n.bad_states)) (rw same at t7.1) in
-      let r6 = neither (ltb gates n.gates) (ltb qubits (3 * n.gates + n.bad_states + 1)) r7.0 in
-      record {
-        sound = record {
-          timely = record { regular = regular c t3.0 t3.1; early = t5.0 };
-          partnered = t5.1;
-          some_bad = omega (arith, eqb-false (counts_of c).bad_states 0 t7.0, bads-of c);
-        };
-        counts = sym same;
-        enough_gates = ltb-false gates n.gates r6.0;
-        enough_qubits = ltb-false qubits (3 * n.gates + n.bad_states + 1) r6.1;
-        enough_pairs = ltb-false pairs (10 * n.gates + 3 * n.bad_states) r7.1;
-      }

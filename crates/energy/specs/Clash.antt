@@ -1,14 +1,12 @@
 -- Refusal 9: "a qubit is to be fixed to two values", given at a qubit: that of the first fix, in fixing order, that contradicts an earlier one.
+-- The theorems that an edit of a definition breaks are in proofs/Clash.antt.
 -- Assumes nothing.
 use Rattle.std.specs.Prelude.{◌≡◌, refl, ◌⊎◌, Bool, true, false, not, ◌&&◌, ◌||◌, cond, List, [], ◌∷◌, ◌++◌, ℕ, ◌<◌, eqb, length, get_or, set}
-use Rattle.std.proofs.Common.{sym, subst, ◌∙◌, ap, inl, inr, arith, length-set, get_or-set_same, get_or-set_other, eq-eqb, ne_eqb}
+use Rattle.std.proofs.Common.{sym, ◌∙◌, ap, inl, inr, arith, length-set, get_or-set_same, get_or-set_other, eq-eqb, ne_eqb}
 use Rattle.std.specs.Bool.{beq}
 use Rattle.std.proofs.Math.Decide.{ℕ_discrete}
 use Rattle.laws.specs.Test.{by_eqb, by-beq, ne-not, not-self}
-use Rattle.energy.specs.Circuit.{Constraint}
-use Rattle.energy.specs.Numbering.{Named, Numbering, rows}
-use Rattle.energy.specs.Fixing.{mark, Fixes, Within, SameAt, OneValue, Says, placed-fixed}
-use Rattle.energy.specs.Finished.{Room, Known, fixes, model, sized-model, fixes-within}
+use Rattle.energy.specs.Fixing.{mark, Fixes, Within, SameAt, OneValue, Says}
 
 -- no clash, or the place of the refusal
 pub data Clash : Type 0 where
@@ -210,9 +208,3 @@ clash-table l fs w z = table-after l [] fs w holds
 
     holds : Holds l []
     holds q k b = rw (z q) (marked b)
-
--- Theorem: over the tables of the model before fixing, the build finds the clash of the fixes.
-pub clash-built : (n : ℕ) (d : Named) → Numbering d → Room n d → (cs : List Constraint) → Known d.reached cs
-    → clash_in (model n d).fixed (fixes d cs) ≡ clash (fixes d cs)
-clash-built n d num room cs known =
-    clash-table (model n d).fixed (fixes d cs) (subst (λ (k : ℕ). Within k (fixes d cs)) (sym (sized-model n d num room).fixed) (fixes-within n d num room cs known)) (placed-fixed n (rows d))

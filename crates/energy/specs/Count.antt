@@ -1,6 +1,7 @@
 -- The variable count: what it counts, that it does not depend on the form, and that the energy asks for no other qubit.
+-- The theorems that an edit of a definition breaks are in proofs/Count.antt.
 -- Assumes nothing.
-use Rattle.std.specs.Prelude.{◌≡◌, ◌⊎◌, ◌≢◌, Bool, true, false, cond, ◌&&◌, ◌||◌, ℕ, zero, suc, ◌+◌, ◌<◌, eqb, ltb, ℤ, pos, length, get_or, set}
+use Rattle.std.specs.Prelude.{◌≡◌, ◌⊎◌, ◌≢◌, Bool, true, false, cond, ◌||◌, ℕ, zero, suc, ◌+◌, ◌<◌, eqb, ltb, ℤ, pos, length, get_or, set}
 use Rattle.std.proofs.Math.Path.{refl, sym, ap, ap₂}
 use Rattle.std.proofs.Common.{◌∙◌, inl, inr, arith, zero-add, length-set, get_or-set_same, get_or-set_other}
 use Rattle.std.proofs.Math.Bool.{or-true}
@@ -8,18 +9,13 @@ use mathlib.Core.List.{List, [], ◌∷◌}
 use Rattle.std.proofs.Math.Decide.{ℕ_discrete}
 use Rattle.std.proofs.Math.IntN.{◌+ℤ◌}
 use Rattle.laws.specs.Test.{by_eqb}
-use Rattle.units.specs.declared.Form.{Form}
 use Rattle.penalty.specs.declared.Penalty.{Penalty}
 use Rattle.penalty.specs.Rows.{Slot, Place, singles, twos, row_of}
 use Rattle.energy.specs.Plain.{Setting, Row, wire}
-use Rattle.energy.specs.Circuit.{Constraint}
-use Rattle.energy.specs.Numbering.{Named, Numbering, rows}
-use Rattle.energy.specs.Model.{Entry, Model, Sized, empty, key_of, low, high, is_zero, add_offset, join_linear, add, join_pair, add_linear, add_pair, halves, add_linears, add_pairs, place, place_all, gated, touches, neighbour, give, without, fix, quarters, ends, ising, counted, variables, pairs_by, energy_by, energy_in}
-use Rattle.energy.specs.Sized.{Wired, Ends, key_of-ends, turned, sized-empty, sized-ising, sized-add_linears, sized-add_pair, sized-add_pairs, sized-add_offset}
-use Rattle.energy.specs.Fixing.{Fixes, fix_all}
-use Rattle.energy.specs.Finished.{Room, Known, fixes, model, finished, in_form, rows-wired, sized-finished, either-form}
-use Rattle.energy.specs.Stored.{Additive, gated-add, additive-zero, linear-same}
-use Rattle.energy.specs.Marks.{Mark, Marked, no-entry, built-marked}
+use Rattle.energy.specs.Model.{Entry, Model, Sized, key_of, low, high, is_zero, add_offset, join_linear, add, join_pair, add_linear, add_pair, halves, add_linears, add_pairs, place, place_all, counted, variables, pairs_by, energy_by}
+use Rattle.energy.specs.Sized.{Wired, Ends, key_of-ends, sized-add_linears, sized-add_pair, sized-add_pairs, sized-add_offset}
+use Rattle.energy.specs.Stored.{Additive, additive-zero, linear-same}
+use Rattle.energy.specs.Marks.{Mark, Marked, no-entry}
 use Rattle.energy.specs.Gone.{Gone}
 
 -- ---- what is counted
@@ -111,7 +107,7 @@ rowed-join_pair n p q c m ne hp hq s r =
     ends-rowed : (get_or l (low (key_of p q)) 0 ≡ 1) × (get_or l (high (key_of p q)) 0 ≡ 1)
     ends-rowed = go (key_of-ends p q ne (omega (arith, s.names)) (omega (arith, s.names)))
 
-rowed-add_linear : (q : ℕ) (c : ℤ) (m : Model) → AllRowed m → AllRowed (add_linear q c m)
+pub rowed-add_linear : (q : ℕ) (c : ℤ) (m : Model) → AllRowed m → AllRowed (add_linear q c m)
 unfolding add_linear
 rowed-add_linear q c m r = go (is_zero c)
   where
@@ -153,68 +149,6 @@ module _ (n : ℕ) where
       (sized-add_pairs n (wire x) w.0 twos p.pairs _ z)
       (rowed-add_pairs (wire x) w.0 twos p.pairs _ z (rowed-add_linears (wire x) singles p.linear o r))
 
-rowed-give : (q : ℕ) (b : Bool) (s : List Entry) (m : Model) → AllRowed m → AllRowed (give q b s m)
-unfolding give
-rowed-give q b [] m r = r
-rowed-give q b (e ∷ s) m r = rowed-give q b s _ (go (touches q e.0))
-  where
-    go : (t : Bool) → AllRowed (cond t (add_linear (neighbour q e.0) (gated b e.1) m) m)
-    go true = rowed-add_linear (neighbour q e.0) (gated b e.1) m r
-    go false = r
-
-rowed-without : (l : List ℕ) (q : ℕ) (s : List Entry) → Rowed l s → Rowed (set l q 0) (without q s)
-unfolding without
-rowed-without l q [] r = tt
-rowed-without l q (e ∷ s) r =
-    by_eqb (low e.0) q (λ b. Rowed (set l q 0) (cond (b || eqb (high e.0) q) (without q s) (e ∷ without q s)))
-    (λ a. rowed-without l q s r.2)
-    (λ a.
-    by_eqb (high e.0) q (λ b. Rowed (set l q 0) (cond b (without q s) (e ∷ without q s)))
-    (λ b. rowed-without l q s r.2)
-    (λ b. (get_or-set_other l q (low e.0) 0 0 a ∙ r.0, get_or-set_other l q (high e.0) 0 0 b ∙ r.1, rowed-without l q s r.2)))
-
--- and so does fixing: "a neighbour's row may become empty and still exists"
-pub rowed-fix : (q : ℕ) (b : Bool) (m : Model) → AllRowed m → AllRowed (fix q b m)
-unfolding fix
-rowed-fix q b m r = let M : Model = give q b m.pairs m in rowed-without M.has_row q M.pairs (rowed-give q b m.pairs m r)
-
--- one fix after the other
-pub rowed-fix_all : (fs : Fixes) (m : Model) → AllRowed m → AllRowed (fix_all fs m)
-unfolding fix_all
-rowed-fix_all [] m r = r
-rowed-fix_all (f ∷ fs) m r = rowed-fix_all fs _ (rowed-fix f.0 f.1 m r)
-
-entered-join : (q p : ℕ) (c : ℤ) (m : Model) → get_or m.has_row p 0 ≡ 1 → entered (join_linear p c m) q ≡ entered m q
-entered-join q p c m r = go (ℕ_discrete q p)
-  where
-    go : Dec (q ≡ p) → entered (join_linear p c m) q ≡ entered m q
-    go (yes e) = rw (e, r) (or-true (eqb (get_or (set m.has_linear p 1) p 0) 1) ∙ sym (or-true (eqb (get_or m.has_linear p 0) 1)))
-    go (no n) = rw (get_or-set_other m.has_linear p q 1 0 n)
-
-entered-ends : (q : ℕ) (s : List Entry) (m : Model) → Rowed m.has_row s → entered (ends s m) q ≡ entered m q
-unfolding ends
-entered-ends q [] m r = refl
-entered-ends q (e ∷ s) m r =
-    entered-ends q s _ r.2
-    ∙ entered-join q (high e.0) e.1 (join_linear (low e.0) e.1 m) r.1
-    ∙ entered-join q (low e.0) e.1 m r.0
-
-rowed-quarters : (l : List ℕ) (s : List Entry) → Rowed l s → Rowed l (quarters s)
-rowed-quarters l [] r = tt
-rowed-quarters l (e ∷ s) r = (r.0, r.1, rowed-quarters l s r.2)
-
--- Theorem: the Ising form counts the same qubits.
-pub ising-entered : (m : Model) → AllRowed m → (q : ℕ) → entered (ising m) q ≡ entered m q
-unfolding ising
-ising-entered m r q = entered-ends q (quarters m.pairs) (turned m) (rowed-quarters m.has_row m.pairs r)
-
--- so the count is the same
-pub ising-variables : (n : ℕ) (m : Model) → Sized n m → AllRowed m → variables (ising m) ≡ variables m
-ising-variables n m s r =
-    variables-tally n (ising m) (sized-ising n m s)
-    ∙ tally-same n (entered (ising m)) (entered m) (λ q l. ising-entered m r q)
-    ∙ sym (variables-tally n m s)
-
 -- ---- the energy asks only for the qubits that are counted
 
 module _ (f : Bool → ℤ → ℤ) (fa : Additive f) (j : Bool → Bool → Bool) (σ τ : Setting) where
@@ -235,27 +169,3 @@ module _ (f : Bool → ℤ → ℤ) (fa : Additive f) (j : Bool → Bool → Boo
       go : (i : ℕ) → Mark (get_or m.has_linear i 0) (get_or m.linear i (pos 0)) → f (σ (0 + i)) (get_or m.linear i (pos 0)) ≡ f (τ (0 + i)) (get_or m.linear i (pos 0))
       go i (inl e) = rw e.1 (additive-zero f fa (σ (0 + i)) ∙ sym (additive-zero f fa (τ (0 + i))))
       go i (inr e) = ap (λ (b : Bool). f b (get_or m.linear i (pos 0))) (ap σ (zero-add i) ∙ h i (rw e) ∙ ap τ (sym (zero-add i)))
-
--- ---- of the finished model
-
-module _ (n : ℕ) (d : Named) (num : Numbering d) (room : Room n d) (cs : List Constraint) where
-  -- every pair of the finished model is of two qubits with a row
-  pub finished-rowed : AllRowed (finished n d cs)
-  finished-rowed =
-      rowed-fix_all (fixes d cs) (model n d) (rowed-place_all n (rows d) (rows-wired n d num room) (empty n) (sized-empty n room.names) tt)
-
-  -- The variable count does not depend on the form.
-  pub finished-variables : variables (ising (finished n d cs)) ≡ variables (finished n d cs)
-  finished-variables = ising-variables n (finished n d cs) (sized-finished n d num room cs) finished-rowed
-
-  -- its marks are in order
-  pub finished-marked : Marked (finished n d cs)
-  finished-marked = built-marked n (rows d) (fixes d cs)
-
-  -- In either form its energy asks only for the qubits that are counted.
-  pub finished-asks : Known d.reached cs → (form : Form) (σ τ : Setting) → ((q : ℕ) → entered (finished n d cs) q ≡ true → σ q ≡ τ q)
-      → energy_in form σ (in_form form (finished n d cs)) ≡ energy_in form τ (in_form form (finished n d cs))
-  finished-asks known form σ τ h =
-      either-form n d num room cs known form σ
-      ∙ energy-entered gated gated-add ◌&&◌ σ τ (finished n d cs) finished-marked finished-rowed h
-      ∙ sym (either-form n d num room cs known form τ)

@@ -1,13 +1,13 @@
 -- Every coefficient of a model that rows build, fixed or not, is a multiple of 4 halves: so the halves and quarters of the Ising form are exact.
+-- The theorems that an edit of a definition breaks are in proofs/Fours.antt.
 -- Assumes nothing.
-use Rattle.std.specs.Prelude.{◌≡◌, Bool, true, false, cond, List, [], ◌∷◌, ℕ, zero, suc, eqb, ltb, ℤ, pos, ◌+ℤ◌, get_or, set, replicate}
+use Rattle.std.specs.Prelude.{◌≡◌, Bool, true, false, cond, List, [], ◌∷◌, ℕ, zero, suc, eqb, ltb, ℤ, pos, ◌+ℤ◌, get_or, set}
 use Rattle.laws.specs.Half.{Even, Fourfold, four, even-half, fourfold-add, fourfold-even, fourfold-quarter, fourfold-zero, even-twice}
 use Rattle.penalty.specs.declared.Penalty.{Penalty}
 use Rattle.penalty.specs.Rows.{Slot, Place, singles, twos, row_of}
-use Rattle.penalty.specs.Small.{offset-small, linear-small, pairs_small}
+use Rattle.penalty.proofs.Small.{offset-small, linear-small, pairs_small}
 use Rattle.energy.specs.Plain.{Row, wire}
-use Rattle.energy.specs.Model.{Entry, Model, key_of, empty, is_zero, join_linear, add, join_pair, add_linear, add_pair, halves, add_linears, add_pairs, place, place_all, gated, touches, neighbour, give, without, fix, half, quarter, weights}
-use Rattle.energy.specs.Fixing.{Fixes, fix_all}
+use Rattle.energy.specs.Model.{Entry, Model, key_of, is_zero, join_linear, add, join_pair, add_linear, add_pair, halves, add_linears, add_pairs, place, place_all, half, quarter, weights}
 
 -- ---- every coefficient is a multiple of 4 halves
 
@@ -28,7 +28,7 @@ fours-at [] f i = fourfold-zero
 fours-at (c ∷ cs) f zero = f.0
 fours-at (c ∷ cs) f (suc i) = fours-at cs f.1 i
 
-fours-set : (cs : List ℤ) → AllFours cs → (i : ℕ) (c : ℤ) → Fourfold c → AllFours (set cs i c)
+pub fours-set : (cs : List ℤ) → AllFours cs → (i : ℕ) (c : ℤ) → Fourfold c → AllFours (set cs i c)
 fours-set [] f i c h = tt
 fours-set (d ∷ cs) f zero c h = (h, f.1)
 fours-set (d ∷ cs) f (suc i) c h = (f.0, fours-set cs f.1 i c h)
@@ -43,26 +43,6 @@ fours-add e (g ∷ s) h f = go (ltb e.0 g.0) (eqb e.0 g.0) (fours-add e s h f.1)
     go false true r = (fourfold-add g.1 e.1 f.0 h, f.1)
     go false false r = (f.0, r)
 
-fours-without : (q : ℕ) (s : List Entry) → AllFours (weights s) → AllFours (weights (without q s))
-unfolding without
-fours-without q [] f = tt
-fours-without q (e ∷ s) f = go (touches q e.0) (fours-without q s f.1)
-  where
-    go : (t : Bool) → AllFours (weights (without q s)) → AllFours (weights (cond t (without q s) (e ∷ without q s)))
-    go true r = r
-    go false r = (f.0, r)
-
-fours-gated : (b : Bool) (c : ℤ) → Fourfold c → Fourfold (gated b c)
-fours-gated true c h = h
-fours-gated false c h = fourfold-zero
-
-fours-empty : (n : ℕ) → Fours (empty n)
-fours-empty n = record { offset = fourfold-zero; linear = zeros n; pairs = tt }
-  where
-    zeros : (n : ℕ) → AllFours (replicate n (pos 0))
-    zeros zero = tt
-    zeros (suc n) = (fourfold-zero, zeros n)
-
 fours-join_linear : (q : ℕ) (c : ℤ) (m : Model) → Fourfold c → Fours m → Fours (join_linear q c m)
 fours-join_linear q c m h f =
     record {
@@ -71,7 +51,7 @@ fours-join_linear q c m h f =
       pairs = f.pairs;
     }
 
-fours-add_linear : (q : ℕ) (c : ℤ) (m : Model) → Fourfold c → Fours m → Fours (add_linear q c m)
+pub fours-add_linear : (q : ℕ) (c : ℤ) (m : Model) → Fourfold c → Fours m → Fours (add_linear q c m)
 unfolding add_linear
 fours-add_linear q c m h f = go (is_zero c)
   where
@@ -118,41 +98,6 @@ fours-place_all (r ∷ rs) m f =
       linear = f.linear;
       pairs = f.pairs;
     })))
-
-fours-give : (q : ℕ) (b : Bool) (s : List Entry) (m : Model) → AllFours (weights s) → Fours m → Fours (give q b s m)
-unfolding give
-fours-give q b [] m w f = f
-fours-give q b (e ∷ s) m w f = fours-give q b s _ w.1 (go (touches q e.0))
-  where
-    go : (t : Bool) → Fours (cond t (add_linear (neighbour q e.0) (gated b e.1) m) m)
-    go true = fours-add_linear (neighbour q e.0) (gated b e.1) m (fours-gated b e.1 w.0) f
-    go false = f
-
--- and fixing leaves them so
-pub fours-fix : (q : ℕ) (b : Bool) (m : Model) → Fours m → Fours (fix q b m)
-unfolding fix
-fours-fix q b m f =
-    record {
-      offset = fourfold-add M.offset _ g.offset (fours-gated b (get_or M.linear q (pos 0)) (fours-at M.linear g.linear q));
-      linear = fours-set M.linear g.linear q (pos 0) fourfold-zero;
-      pairs = fours-without q M.pairs g.pairs;
-    }
-  where
-    M : Model
-    M = give q b m.pairs m
-
-    g : Fours M
-    g = fours-give q b m.pairs m f.pairs f
-
--- one fix after the other
-pub fours-fix_all : (fs : Fixes) (m : Model) → Fours m → Fours (fix_all fs m)
-unfolding fix_all
-fours-fix_all [] m f = f
-fours-fix_all (x ∷ fs) m f = fours-fix_all fs _ (fours-fix x.0 x.1 m f)
-
--- Every linear coefficient, every pair and the offset of a model that rows build, fixed or not, is a multiple of 4 halves.
-pub built-fours : (n : ℕ) (rs : List Row) (fs : Fixes) → Fours (fix_all fs (place_all rs (empty n)))
-built-fours n rs fs = fours-fix_all fs _ (fours-place_all rs (empty n) (fours-empty n))
 
 -- so the half of a linear entry is exact
 pub half-exact : (m : Model) → Fours m → (q : ℕ) → half (get_or m.linear q (pos 0)) +ℤ half (get_or m.linear q (pos 0)) ≡ get_or m.linear q (pos 0)

@@ -16,6 +16,5 @@ pub mod Samples
 pub mod Marks
 pub mod Rising
 pub mod Gone
-pub mod Beyond
 pub mod Count
 pub mod Once

@@ -1,13 +1,13 @@
 -- The marks of the tables: a linear entry is marked 1, a qubit without one is marked 0 and its coefficient is 0; a row is marked 1 or 0.
+-- The theorems that an edit of a definition breaks are in proofs/Marks.antt.
 -- Assumes nothing.
-use Rattle.std.specs.Prelude.{◌≡◌, refl, ◌⊎◌, Bool, true, false, cond, List, [], ◌∷◌, map, ℕ, zero, suc, ◌≤◌, eqb, ℤ, pos, get_or, set, replicate}
+use Rattle.std.specs.Prelude.{◌≡◌, refl, ◌⊎◌, Bool, true, false, cond, List, [], ◌∷◌, map, ℕ, zero, suc, ◌≤◌, eqb, ℤ, pos, get_or, set}
 use Rattle.std.proofs.Common.{ap, inl, inr, arith}
 use Rattle.penalty.specs.declared.Penalty.{Penalty}
 use Rattle.penalty.specs.Rows.{Slot, Place, singles, twos, row_of}
 use Rattle.energy.specs.Plain.{Row, wire}
-use Rattle.energy.specs.Model.{Entry, Model, empty, is_zero, join_linear, join_pair, add_linear, add_pair, halves, add_linears, add_pairs, place, place_all, gated, touches, neighbour, give, fix, half, quarters, ends, ising}
+use Rattle.energy.specs.Model.{Entry, Model, is_zero, join_linear, join_pair, add_linear, add_pair, halves, add_linears, add_pairs, place, place_all, half, quarters, ends, ising}
 use Rattle.energy.specs.Sized.{turned}
-use Rattle.energy.specs.Fixing.{Fixes, fix_all}
 
 -- there is no entry and the coefficient is 0, or there is one
 abbrev pub Mark : ℕ → ℤ → Type 0
@@ -46,28 +46,17 @@ flag_at (h ∷ hs) f (suc q) = flag_at hs f.1 q
 
 -- ---- every step keeps that
 
-marks-set : (hs : List ℕ) (cs : List ℤ) (q h : ℕ) (c : ℤ) → Mark h c → Marks hs cs → Marks (set hs q h) (set cs q c)
+pub marks-set : (hs : List ℕ) (cs : List ℤ) (q h : ℕ) (c : ℤ) → Mark h c → Marks hs cs → Marks (set hs q h) (set cs q c)
 marks-set [] [] q h c m k = tt
 marks-set [] (d ∷ cs) q h c m k = absurd k
 marks-set (g ∷ hs) [] q h c m k = absurd k
 marks-set (g ∷ hs) (d ∷ cs) zero h c m k = (m, k.1)
 marks-set (g ∷ hs) (d ∷ cs) (suc q) h c m k = (k.0, marks-set hs cs q h c m k.1)
 
-flags-set : (hs : List ℕ) (q h : ℕ) → h ≤ 1 → Flags hs → Flags (set hs q h)
+pub flags-set : (hs : List ℕ) (q h : ℕ) → h ≤ 1 → Flags hs → Flags (set hs q h)
 flags-set [] q h l f = tt
 flags-set (g ∷ hs) zero h l f = (l, f.1)
 flags-set (g ∷ hs) (suc q) h l f = (f.0, flags-set hs q h l f.1)
-
-marked_empty : (n : ℕ) → Marked (empty n)
-marked_empty n = record { linear = none n; rows = flags n }
-  where
-    none : (n : ℕ) → Marks (replicate n 0) (replicate n (pos 0))
-    none zero = tt
-    none (suc n) = (inl (refl, refl), none n)
-
-    flags : (n : ℕ) → Flags (replicate n 0)
-    flags zero = tt
-    flags (suc n) = (omega arith, flags n)
 
 marked-join_linear : (q : ℕ) (c : ℤ) (m : Model) → Marked m → Marked (join_linear q c m)
 marked-join_linear q c m k = record { linear = marks-set m.has_linear m.linear q 1 _ (inr refl) k.linear; rows = k.rows }
@@ -76,7 +65,7 @@ marked-join_pair : (p q : ℕ) (c : ℤ) (m : Model) → Marked m → Marked (jo
 marked-join_pair p q c m k =
     record { linear = k.linear; rows = flags-set (set m.has_row q 1) p 1 (omega arith) (flags-set m.has_row q 1 (omega arith) k.rows) }
 
-marked-add_linear : (q : ℕ) (c : ℤ) (m : Model) → Marked m → Marked (add_linear q c m)
+pub marked-add_linear : (q : ℕ) (c : ℤ) (m : Model) → Marked m → Marked (add_linear q c m)
 unfolding add_linear
 marked-add_linear q c m k = go (is_zero c)
   where
@@ -113,36 +102,6 @@ marked-place_all (r ∷ rs) m k =
     (marked-add_pairs (wire r) twos p.pairs _
     (marked-add_linears (wire r) singles p.linear _ (record { linear = k.linear; rows = k.rows })))
 
-marked-give : (q : ℕ) (b : Bool) (s : List Entry) (m : Model) → Marked m → Marked (give q b s m)
-unfolding give
-marked-give q b [] m k = k
-marked-give q b (e ∷ s) m k = marked-give q b s _ (go (touches q e.0))
-  where
-    go : (t : Bool) → Marked (cond t (add_linear (neighbour q e.0) (gated b e.1) m) m)
-    go true = marked-add_linear (neighbour q e.0) (gated b e.1) m k
-    go false = k
-
--- fixing
-pub marked-fix : (q : ℕ) (b : Bool) (m : Model) → Marked m → Marked (fix q b m)
-unfolding fix
-marked-fix q b m k =
-    record {
-      linear = marks-set M.has_linear M.linear q 0 (pos 0) (inl (refl, refl)) g.linear;
-      rows = flags-set M.has_row q 0 (omega arith) g.rows;
-    }
-  where
-    M : Model
-    M = give q b m.pairs m
-
-    g : Marked M
-    g = marked-give q b m.pairs m k
-
--- one fix after the other
-pub marked-fix_all : (fs : Fixes) (m : Model) → Marked m → Marked (fix_all fs m)
-unfolding fix_all
-marked-fix_all [] m k = k
-marked-fix_all (f ∷ fs) m k = marked-fix_all fs _ (marked-fix f.0 f.1 m k)
-
 marked-ends : (s : List Entry) (m : Model) → Marked m → Marked (ends s m)
 unfolding ends
 marked-ends [] m k = k
@@ -162,7 +121,3 @@ marked-ising m k = marked-ends (quarters m.pairs) (turned m) (record { linear = 
         go : Mark h c → Mark h (half c)
         go (inl e) = inl (e.0, ap half e.1)
         go (inr e) = inr e
-
--- Theorem: the model that rows build, fixed or not, is so marked.
-pub built-marked : (n : ℕ) (rs : List Row) (fs : Fixes) → Marked (fix_all fs (place_all rs (empty n)))
-built-marked n rs fs = marked-fix_all fs _ (marked-place_all rs (empty n) (marked_empty n))

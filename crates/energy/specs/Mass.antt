@@ -1,8 +1,9 @@
 -- The sum of the sizes of all coefficients (`mass`): placing a row adds at most 264 to it, fixing and the Ising form never make it larger, and it bounds
 -- every coefficient, the offset and the energy. So no sum of the build leaves the range of its type.
+-- The theorems that an edit of a definition breaks are in proofs/Mass.antt.
 -- Assumes nothing.
 use Rattle.std.specs.Prelude.{◌≡◌, refl, Bool, true, false, cond, ◌&&◌, ℕ, zero, suc, ◌+◌, ◌*◌, ◌/◌, ◌≤◌, eqb, ltb, ℤ, pos, negsuc, nat_abs, ◌+ℤ◌, length, get_or, set, replicate}
-use Rattle.std.proofs.Common.{ap, le_refl}
+use Rattle.std.proofs.Common.{le_refl}
 use Rattle.std.specs.Bool.{beq}
 use mathlib.Core.List.{List, [], ◌∷◌, map}
 use native.Mathlib.Omega.{arith}
@@ -13,11 +14,10 @@ use Rattle.units.specs.declared.Form.TheVariants.{Binary, Ising}
 use Rattle.penalty.specs.declared.Kind.{Kind}
 use Rattle.penalty.specs.declared.Penalty.{Penalty}
 use Rattle.penalty.specs.Rows.{Slot, Place, singles, twos, row_of}
-use Rattle.penalty.specs.Small.{offset-small, linear-small, pairs_small}
+use Rattle.penalty.proofs.Small.{offset-small, linear-small, pairs_small}
 use Rattle.energy.specs.Plain.{Setting, Row, wire}
-use Rattle.energy.specs.Model.{Entry, Model, key_of, low, high, empty, is_zero, add_offset, join_linear, add, join_pair, add_linear, add_pair, halves, add_linears, add_pairs, place, place_all, gated, touches, neighbour, give, without, clear, fix, half, quarter, weights, quarters, ends, ising, signed, linear_by, pairs_by, energy_by, energy_in, sizes, mass}
+use Rattle.energy.specs.Model.{Entry, Model, key_of, low, high, empty, is_zero, add_offset, join_linear, add, join_pair, add_linear, add_pair, halves, add_linears, add_pairs, place, place_all, gated, touches, neighbour, half, quarter, weights, quarters, signed, linear_by, pairs_by, energy_by, energy_in, sizes, mass}
 use Rattle.energy.specs.Sized.{turned}
-use Rattle.energy.specs.Fixing.{give-pairs}
 
 -- ---- lists of coefficients
 
@@ -146,47 +146,13 @@ abs-gated true c = le_refl _
 abs-gated false c = omega arith
 
 -- what the pairs of q weigh together
-abbrev given : ℕ → List Entry → ℕ
+abbrev pub given : ℕ → List Entry → ℕ
 given q [] = 0
 given q (e ∷ s) = cond (touches q e.0) (nat_abs e.1) 0 + given q s
 
-given-rest : (q : ℕ) (s : List Entry) → sizes (weights (without q s)) + given q s ≡ sizes (weights s)
-unfolding without
-given-rest q [] = refl
-given-rest q (e ∷ s) = go (touches q e.0) (given-rest q s)
-  where
-    go : (b : Bool) → sizes (weights (without q s)) + given q s ≡ sizes (weights s)
-        → sizes (weights (cond b (without q s) (e ∷ without q s))) + (cond b (nat_abs e.1) 0 + given q s) ≡ nat_abs e.1 + sizes (weights s)
-    go true r = omega arith
-    go false r = omega arith
-
 -- one pair's turn
-abbrev turn : ℕ → Bool → Entry → Model → Model
+abbrev pub turn : ℕ → Bool → Entry → Model → Model
 turn q b e m = cond (touches q e.0) (add_linear (neighbour q e.0) (gated b e.1) m) m
-
-mass-turn : (q : ℕ) (b : Bool) (e : Entry) (m : Model) → mass (turn q b e m) ≤ mass m + cond (touches q e.0) (nat_abs e.1) 0
-mass-turn q b e m = go (touches q e.0)
-  where
-    go : (t : Bool) → mass (cond t (add_linear (neighbour q e.0) (gated b e.1) m) m) ≤ mass m + cond t (nat_abs e.1) 0
-    go true = omega (arith, mass-add_linear (neighbour q e.0) (gated b e.1) m, abs-gated b e.1)
-    go false = omega arith
-
-mass-give : (q : ℕ) (b : Bool) (s : List Entry) (m : Model) → mass (give q b s m) ≤ mass m + given q s
-unfolding give
-mass-give q b [] m = omega arith
-mass-give q b (e ∷ s) m = let r = mass-give q b s (turn q b e m) in omega (arith, mass-turn q b e m)
-
-mass-clear : (q : ℕ) (b : Bool) (m : Model) → mass (clear q b m) + given q m.pairs ≤ mass m
-unfolding mass
-mass-clear q b m =
-    omega (arith, given-rest q m.pairs, sizes-clear m.linear q, abs-add m.offset (gated b (get_or m.linear q (pos 0))), abs-gated b (get_or m.linear q (pos 0)))
-
--- Theorem: fixing never makes it larger.
-pub mass-fix : (q : ℕ) (b : Bool) (m : Model) → mass (fix q b m) ≤ mass m
-unfolding fix
-mass-fix q b m =
-    let g : Model = give q b m.pairs m in
-    omega (arith, mass-clear q b g, mass-give q b m.pairs m, ap (given q) (give-pairs q b m.pairs m))
 
 -- ---- the Ising form
 
@@ -206,12 +172,6 @@ pub sizes-quarters : (s : List Entry) → 4 * sizes (weights (quarters s)) ≤ s
 sizes-quarters [] = omega arith
 sizes-quarters (e ∷ s) = omega (arith, sizes-quarters s, abs-quarter e.1)
 
-pub mass-ends : (s : List Entry) (m : Model) → mass (ends s m) ≤ mass m + 2 * sizes (weights s)
-unfolding ends
-mass-ends [] m = omega arith
-mass-ends (e ∷ s) m =
-    omega (arith, mass-ends s (join_linear (high e.0) e.1 (join_linear (low e.0) e.1 m)), mass-join_linear (high e.0) e.1 (join_linear (low e.0) e.1 m), mass-join_linear (low e.0) e.1 m)
-
 -- there is room for the numbers that join the ends
 pub mass-turned : (m : Model) → mass (turned m) + 2 * sizes (weights (quarters m.pairs)) ≤ mass m
 unfolding mass
@@ -230,11 +190,6 @@ mass-turned m =
       sizes-half m.linear,
       sizes-quarters m.pairs,
     )
-
--- Theorem: the Ising form is not larger than the 0/1 form.
-pub mass-ising : (m : Model) → mass (ising m) ≤ mass m
-unfolding ising
-mass-ising m = omega (arith, mass-ends (quarters m.pairs) (turned m), mass-turned m)
 
 -- ---- it bounds every number
 

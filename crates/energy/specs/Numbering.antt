@@ -1,7 +1,8 @@
 -- A numbering of a circuit's reached gates by qubits: the data that a numbering makes, the rows that it places, and the laws that the theorem asks of it.
+-- The theorems that an edit of a definition breaks are in proofs/Numbering.antt.
 -- Assumes nothing.
 use Rattle.std.specs.Prelude.{◌≡◌, refl, ◌⊎◌, cond, List, [], ◌∷◌, ◌++◌, map, ℕ, suc, ◌+◌, ◌≤◌, ◌<◌}
-use Rattle.std.proofs.Common.{sym, subst, inl, inr}
+use Rattle.std.proofs.Common.{inl, inr}
 use Rattle.penalty.specs.declared.Kind.TheVariants as row
 use Rattle.energy.specs.Plain.{Setting, Row, more, Obey, Sorted, Free}
 use Rattle.energy.specs.Circuit.{Nodes, Node, fixed, free, op, carry_of, lists, Before, IsFree}
@@ -131,9 +132,3 @@ obey-left σ (r ∷ rs) ts o = (o.0, obey-left σ rs ts o.1)
 pub obey-right : (σ : Setting) (rs ts : List Row) → Obey σ (rs ++ ts) → Obey σ ts
 obey-right σ [] ts o = o
 obey-right σ (r ∷ rs) ts o = obey-right σ rs ts o.1
-
-pub obey-gate : (N : Nodes) (base : ℕ → ℕ) (σ : Setting) (gs : List ℕ) → Obey σ (gate_rows N base gs) → (g : ℕ) → In g gs → Obey σ (row_by N base g (N g))
-obey-gate N base σ [] o g i = absurd i
-obey-gate N base σ (h ∷ gs) o g (inl e) =
-    subst (λ (g : ℕ). Obey σ (row_by N base g (N g))) (sym e) (obey-left σ (row_by N base h (N h)) (gate_rows N base gs) o)
-obey-gate N base σ (h ∷ gs) o g (inr i) = obey-gate N base σ gs (obey-right σ (row_by N base h (N h)) (gate_rows N base gs) o) g i

@@ -1,15 +1,16 @@
 -- The plain energy of a list of placed rows, and the run: the one setting of the rows' outputs that has energy 0.
 -- The rows stand in the order in which they were added. Each takes one fresh name, an adder three in a row, and its operands are named before.
+-- The theorems that an edit of a definition breaks are in proofs/Plain.antt.
 -- Assumes nothing.
 use Rattle.std.specs.Prelude.{◌≡◌, refl, ◌⊎◌, ◌≢◌, Bool, true, false, cond, List, [], ◌∷◌, ℕ, suc, ◌+◌, ◌≤◌, ◌<◌, eqb}
-use Rattle.std.proofs.Math.Path.{sym, subst, fun_ext}
+use Rattle.std.proofs.Math.Path.{fun_ext}
 use Rattle.std.proofs.Common.{◌∙◌, ap, ap₂, inl, inr, eq-eqb, ne_eqb}
 use native.Mathlib.Omega.{arith}
-use Rattle.std.proofs.Math.Decide.{ℕ_discrete, dec_lt}
 use Rattle.penalty.specs.declared.Kind.{Kind}
 use Rattle.penalty.specs.Rows.{Slot, in₁, in₂, in₃, res, aux, car}
-use Rattle.penalty.specs.Rule.{is_adder, result_by, carry_by, aux_by, obeys, Follows, obeys-join, obeys-split}
-use Rattle.penalty.specs.Penalises.{row_energy, penalises}
+use Rattle.penalty.specs.Rule.{is_adder, result_by, carry_by, aux_by, obeys, Follows, obeys-split}
+use Rattle.penalty.specs.Penalises.{row_energy}
+use Rattle.penalty.proofs.Penalises.{penalises}
 
 -- ---- settings
 
@@ -156,22 +157,6 @@ write-other r σ q h =
 pub same₃ : (f : Bool → Bool → Bool → Bool) {a b c a' b' c' : Bool} → a ≡ a' → b ≡ b' → c ≡ c' → f a b c ≡ f a' b' c'
 same₃ f p q r i = f (p i) (q i) (r i)
 
--- what stands at the outputs afterwards
-write-result : (r : Row) (σ : Setting) → write r σ (wire r res) ≡ result_by r.kind (σ r.x) (σ r.y) (σ r.w)
-unfolding write
-write-result r σ = upd_same _ (wire r res) _
-
-write-carry : (r : Row) (σ : Setting) → is_adder r.kind ≡ true → write r σ (wire r car) ≡ carry_by r.kind (σ r.x) (σ r.y) (σ r.w)
-unfolding wire write
-write-carry r σ e = upd_other _ (wire r res) _ (wire r car) (rw e (omega arith)) ∙ upd_same _ (wire r car) _
-
-write-aux : (r : Row) (σ : Setting) → is_adder r.kind ≡ true → write r σ (wire r aux) ≡ aux_by r.kind (σ r.x) (σ r.y) (σ r.w)
-unfolding wire write
-write-aux r σ e =
-    upd_other _ (wire r res) _ (wire r aux) (rw e (omega arith))
-    ∙ upd_other _ (wire r car) _ (wire r aux) (rw e (omega arith))
-    ∙ upd_same _ (wire r aux) _
-
 module _ (r : Row) (hx : r.x < r.out) (hy : r.y < r.out) (hw : r.w < r.out) where
   -- every slot stands before the next row's names
   pub wire-below : (s : Slot) → wire r s < suc (r.out + more r.kind)
@@ -183,30 +168,8 @@ module _ (r : Row) (hx : r.x < r.out) (hy : r.y < r.out) (hw : r.w < r.out) wher
   wire-below car = omega (arith, mid≤more r.kind)
   wire-below res = omega arith
 
-  -- a row that has just been run is obeyed
-  write-obeys : (σ : Setting) → obeys_at (write r σ) r ≡ true
-  unfolding wire
-  write-obeys σ = obeys-join r.kind (seen (write r σ) r) follows
-    where
-      ex : write r σ r.x ≡ σ r.x
-      ex = write-other r σ r.x (inl hx)
-
-      ey : write r σ r.y ≡ σ r.y
-      ey = write-other r σ r.y (inl hy)
-
-      ew : write r σ r.w ≡ σ r.w
-      ew = write-other r σ r.w (inl hw)
-
-      follows : Follows r.kind (seen (write r σ) r)
-      follows =
-          record {
-            on_result = write-result r σ ∙ sym (same₃ (result_by r.kind) ex ey ew);
-            on_carry = λ e. write-carry r σ e ∙ sym (same₃ (carry_by r.kind) ex ey ew);
-            on_aux = λ e. write-aux r σ e ∙ sym (same₃ (aux_by r.kind) ex ey ew);
-          }
-
 -- two settings that agree below the next row's names see a row alike
-seen_same : (r : Row) → r.x < r.out → r.y < r.out → r.w < r.out → (σ τ : Setting)
+pub seen_same : (r : Row) → r.x < r.out → r.y < r.out → r.w < r.out → (σ τ : Setting)
     → ((q : ℕ) → q < suc (r.out + more r.kind) → σ q ≡ τ q) → seen σ r ≡ seen τ r
 seen_same r hx hy hw σ τ h = fun_ext (λ s. h (wire r s) (wire-below r hx hy hw s))
 
@@ -226,91 +189,11 @@ unfolding run
 run-free [] φ q f = refl
 run-free (r ∷ rs) φ q f = run-free rs (write r φ) q f.1 ∙ write-other r φ q f.0
 
--- the run obeys every row
-pub run-obeys : (lo : ℕ) (rs : List Row) (n : ℕ) → Sorted lo rs n → (φ : Setting) → Obey (run rs φ) rs
-unfolding run
-run-obeys lo [] n s φ = tt
-run-obeys lo (r ∷ rs) n s φ =
-    (ap (obeys r.kind) same ∙ write-obeys r s.1 s.2 s.3 φ, run-obeys (suc (r.out + more r.kind)) rs n s.4 (write r φ))
-  where
-    kept : (q : ℕ) → q < suc (r.out + more r.kind) → run rs (write r φ) q ≡ write r φ q
-    kept q h = run-free rs (write r φ) q (free-below (suc (r.out + more r.kind)) rs n s.4 q h)
-
-    same : seen (run rs (write r φ)) r ≡ seen (write r φ) r
-    same = seen_same r s.1 s.2 s.3 (run rs (write r φ)) (write r φ) kept
-
 -- a setting that obeys a row has, below the next row's names, what the row writes
 module _ (r : Row) (hx : r.x < r.out) (hy : r.y < r.out) (hw : r.w < r.out) (σ φ : Setting) (o : obeys_at σ r ≡ true)
     (before : (q : ℕ) → q < r.out → σ q ≡ φ q) where
-  obeyed : Follows r.kind (seen σ r)
+  pub obeyed : Follows r.kind (seen σ r)
   obeyed = obeys-split r.kind (seen σ r) o
-
-  at-result : σ (wire r res) ≡ write r φ (wire r res)
-  unfolding wire
-  at-result =
-      obeyed.on_result ∙ same₃ (result_by r.kind) (before r.x hx) (before r.y hy) (before r.w hw) ∙ sym (write-result r φ)
-
-  at-carry : is_adder r.kind ≡ true → σ (wire r car) ≡ write r φ (wire r car)
-  unfolding wire
-  at-carry e =
-      obeyed.on_carry e ∙ same₃ (carry_by r.kind) (before r.x hx) (before r.y hy) (before r.w hw) ∙ sym (write-carry r φ e)
-
-  at-aux : is_adder r.kind ≡ true → σ (wire r aux) ≡ write r φ (wire r aux)
-  unfolding wire
-  at-aux e =
-      obeyed.on_aux e ∙ same₃ (aux_by r.kind) (before r.x hx) (before r.y hy) (before r.w hw) ∙ sym (write-aux r φ e)
-
-  forced : (q : ℕ) → q < suc (r.out + more r.kind) → σ q ≡ write r φ q
-  unfolding wire
-  forced q h = go (dec_lt q r.out)
-    where
-      at : (p : ℕ) → q ≡ p → σ p ≡ write r φ p → σ q ≡ write r φ q
-      at p e k = subst (λ (p : ℕ). σ p ≡ write r φ p) (sym e) k
-
-      adds : r.out ≤ q → (b : Bool) → is_adder r.kind ≡ b → σ q ≡ write r φ q
-      adds le false e = let m : more r.kind ≡ 0 = rw e in at (r.out + more r.kind) (omega arith) at-result
-      adds le true e = three (ℕ_discrete q r.out) (ℕ_discrete q (r.out + 1))
-        where
-          m : more r.kind ≡ 2
-          m = rw e
-
-          d : mid r.kind ≡ 1
-          d = rw e
-
-          three : Dec (q ≡ r.out) → Dec (q ≡ r.out + 1) → σ q ≡ write r φ q
-          three (yes a) b = at r.out a (at-aux e)
-          three (no a) (yes b) = at (r.out + mid r.kind) (omega (arith, d)) (at-carry e)
-          three (no a) (no b) = at (r.out + more r.kind) (omega (arith, m)) at-result
-
-      go : Dec (q < r.out) → σ q ≡ write r φ q
-      go (yes h) = before q h ∙ sym (write-other r φ q (inl h))
-      go (no f) = adds (omega arith) (is_adder r.kind) refl
-
--- A setting that obeys every row is the run from any φ that agrees with it on the free names.
-pub run_only : (lo : ℕ) (rs : List Row) (n : ℕ) → Sorted lo rs n → (σ φ : Setting) → Obey σ rs
-    → ((q : ℕ) → q < n → Free rs q → σ q ≡ φ q) → (q : ℕ) → q < n → σ q ≡ run rs φ q
-unfolding run
-run_only lo [] n s σ φ o f q h = f q h tt
-run_only lo (r ∷ rs) n s σ φ o f q h = run_only next rs n s.4 σ (write r φ) o.1 free q h
-  where
-    next : ℕ
-    next = suc (r.out + more r.kind)
-
-    fits : next ≤ n
-    fits = sorted-le next rs n s.4
-
-    before : (q : ℕ) → q < r.out → σ q ≡ φ q
-    before q h = f q (omega (arith, fits)) (inl h, free-below next rs n s.4 q (omega arith))
-
-    up_to : (q : ℕ) → q < next → σ q ≡ write r φ q
-    up_to = forced r s.1 s.2 s.3 σ φ o.0 before
-
-    free : (q : ℕ) → q < n → Free rs q → σ q ≡ write r φ q
-    free q h k = go (dec_lt q next)
-      where
-        go : Dec (q < next) → σ q ≡ write r φ q
-        go (yes a) = up_to q a
-        go (no a) = let b : r.out + more r.kind < q = omega arith in f q h (inr b, k) ∙ sym (write-other r φ q (inr b))
 
 -- ---- Theorem, over the rows. Of the settings that agree with φ on the free names, the run from φ has energy 0 and every other has at least 2.
 pub record OneZero (rs : List Row) (n : ℕ) (φ : Setting) : Type 0 where
@@ -318,19 +201,6 @@ pub record OneZero (rs : List Row) (n : ℕ) (φ : Setting) : Type 0 where
   pub zero-at-run : plain (run rs φ) rs ≡ 0
   pub others : (σ : Setting) → ((q : ℕ) → q < n → Free rs q → σ q ≡ φ q)
       → ((q : ℕ) → q < n → σ q ≡ run rs φ q) ⊎ (2 ≤ plain σ rs)
-
-pub one-zero : (lo : ℕ) (rs : List Row) (n : ℕ) → Sorted lo rs n → (φ : Setting) → OneZero rs n φ
-one-zero lo rs n s φ =
-    record {
-      keeps = run-free rs φ;
-      zero-at-run = plain-zero (run rs φ) rs (run-obeys lo rs n s φ);
-      others = λ σ f. go σ f (plain-either σ rs);
-    }
-  where
-    go : (σ : Setting) → ((q : ℕ) → q < n → Free rs q → σ q ≡ φ q) → Obey σ rs ⊎ (2 ≤ plain σ rs)
-        → ((q : ℕ) → q < n → σ q ≡ run rs φ q) ⊎ (2 ≤ plain σ rs)
-    go σ f (inl o) = inl (run_only lo rs n s σ φ o f)
-    go σ f (inr h) = inr h
 
 -- the energy depends on the names below n alone
 pub plain-same : (lo : ℕ) (rs : List Row) (n : ℕ) → Sorted lo rs n → (σ τ : Setting) → ((q : ℕ) → q < n → σ q ≡ τ q) → plain σ rs ≡ plain τ rs

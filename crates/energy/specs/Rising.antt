@@ -1,4 +1,5 @@
 -- The pairs of every model that rows build, fixed or not and in either form, rise by key: so a pair has one entry, and the entries stand by name.
+-- The theorems that an edit of a definition breaks are in proofs/Rising.antt.
 -- Assumes nothing.
 use Rattle.std.specs.Prelude.{Bool, true, false, cond, List, [], ◌∷◌, ℕ, ◌≤◌, ◌<◌, eqb, ltb, ℤ, ◌+ℤ◌}
 use Rattle.std.proofs.Common.{arith}
@@ -6,8 +7,8 @@ use Rattle.laws.specs.Test.{by_eqb, by-ltb}
 use Rattle.penalty.specs.declared.Penalty.{Penalty}
 use Rattle.penalty.specs.Rows.{Slot, Place, singles, twos, row_of}
 use Rattle.energy.specs.Plain.{Row, wire}
-use Rattle.energy.specs.Model.{Entry, Model, empty, key_of, is_zero, join_linear, add, join_pair, add_pair, halves, add_linears, add_pairs, place, place_all, touches, without, fix, quarters, ising}
-use Rattle.energy.specs.Fixing.{add_linear-pairs, fix-pairs, Fixes, fix_all}
+use Rattle.energy.specs.Model.{Entry, Model, key_of, is_zero, join_linear, add, join_pair, add_pair, halves, add_linears, add_pairs, place, place_all, touches, without, quarters, ising}
+use Rattle.energy.specs.Fixing.{add_linear-pairs}
 use Rattle.energy.specs.Ising.{ising-pairs}
 
 -- every key of the list is above k
@@ -102,20 +103,6 @@ rising-place_all (x ∷ rs) m r =
     let p : Penalty = row_of x.kind in
     rising-place_all rs _ (rising-add_pairs (wire x) twos p.pairs _ (rising-add_linears (wire x) singles p.linear _ r))
 
--- fixing keeps it
-pub rising-fix : (q : ℕ) (b : Bool) (m : Model) → Rising m.pairs → Rising (fix q b m).pairs
-rising-fix q b m r = rw (fix-pairs q b m) (rising-without q m.pairs r)
-
--- one fix after the other
-pub rising-fix_all : (fs : Fixes) (m : Model) → Rising m.pairs → Rising (fix_all fs m).pairs
-unfolding fix_all
-rising-fix_all [] m r = r
-rising-fix_all (f ∷ fs) m r = rising-fix_all fs _ (rising-fix f.0 f.1 m r)
-
 -- and so does the Ising form
 pub rising-ising : (m : Model) → Rising m.pairs → Rising (ising m).pairs
 rising-ising m r = rw (ising-pairs m) (rising-quarters m.pairs r)
-
--- Theorem: the pairs of a model that rows build, fixed or not, rise by key.
-pub built-rising : (n : ℕ) (rs : List Row) (fs : Fixes) → Rising (fix_all fs (place_all rs (empty n))).pairs
-built-rising n rs fs = rising-fix_all fs _ (rising-place_all rs (empty n) tt)

@@ -1,17 +1,14 @@
 -- Samples of 01, computed: the finished model, its Ising form and the variable count of each circuit, in counts of halves, under a numbering written out by hand.
+-- The theorems that an edit of a definition breaks are in proofs/Samples.antt.
 -- Assumes nothing.
-use Rattle.std.specs.Prelude.{◌≡◌, refl, Bool, true, false, List, [], ◌∷◌, map, ◌⊎◌, ℕ, zero, suc, ◌+◌, ◌-◌, ◌*◌, ◌≤◌, ◌<◌, ℤ, pos, neg_ℤ, get_or}
-use Rattle.std.proofs.Common.{inl, inr, arith}
+use Rattle.std.specs.Prelude.{Bool, true, false, List, [], ◌∷◌, map, ℕ, ◌+◌, ◌-◌, ◌*◌, ℤ, pos, neg_ℤ, get_or}
 use Rattle.units.specs.declared.Form.TheVariants.{Binary, Ising}
-use Rattle.penalty.specs.Rows.{rows, row_of}
-use Rattle.energy.specs.Plain.{wire, Free}
-use Rattle.energy.specs.Circuit.{Gate, ConstTrue, ConstFalse, InputBit, And, ResultHalfAdder, CarryHalfAdder, nodes_of, Before, IsFree}
-use Rattle.energy.specs.Numbering.{Named, Numbering, In, AllIn, Operands, reads, name, rows as rows_of}
-use Rattle.energy.specs.Model.{Model, ising, variables, energy_in, add, add_linear, add_pair, place, place_all, give, without, fix, ends, counted, linear_by, pairs_by, energy_by}
-use Rattle.energy.specs.Fixing.{fix_all}
-use Rattle.energy.specs.Finished.{fixes, finished, Demand3, demand-3}
+use Rattle.energy.specs.Circuit.{Gate, ConstTrue, ConstFalse, InputBit, And, ResultHalfAdder, CarryHalfAdder, nodes_of}
+use Rattle.energy.specs.Numbering.{Named}
+use Rattle.energy.specs.Model.{Model, ising, variables, energy_in}
+use Rattle.energy.specs.Finished.{fixes, finished}
 use Rattle.energy.specs.Lists.{as_setting}
-use Rattle.energy.specs.Clash.{Clash, none, at, clash, clash_after, clash-none}
+use Rattle.energy.specs.Clash.{Clash, none, at, clash}
 
 -- a circuit with one bad state, its names, and what 01 says of it
 pub record Sample : Type 0 where
@@ -57,7 +54,7 @@ abbrev z : ℤ
 z = pos 0
 
 -- the starred lines of 01 that speak of a model
-pub samples : List Sample
+unfoldable pub samples : List Sample
 samples =
     -- "finished: 2 and 3 have -4, pair 2 3 has 2, offset 6." "P in Ising form: -1.5, -1.5, pair 0.5, offset 2.5."
     record {
@@ -181,7 +178,7 @@ samples =
 abbrev both : Model → List Bool × ℤ × ℤ → List Bool × ℤ × ℤ
 both m e = (e.0, energy_in Binary (as_setting e.0) m, energy_in Ising (as_setting e.0) (ising m))
 
-abbrev made : Sample → Sample
+abbrev pub made : Sample → Sample
 made s =
     let m : Model = finished s.size s.named [] in
     record {
@@ -193,66 +190,3 @@ made s =
       clash = clash (fixes s.named []);
       energies = map (both m) s.energies;
     }
-
--- Theorem: the definitions make what 01 says.
-pub samples-hold : map made samples ≡ samples
-unfolding samples rows row_of wire name add add_linear add_pair place place_all give without fix fix_all ising ends counted linear_by pairs_by energy_by clash_after
-samples-hold = refl
-
--- ---- demand 3 of one circuit, with what its numbering has to prove by hand
-
--- the laws of a numbering hold of P
-pub P-numbering : Numbering P
-unfolding name
-P-numbering =
-    record {
-      ordered = ordered;
-      closed = λ g i. closed g;
-      divisions = λ g i. divisions g;
-      bad-in = inr (inr (inl refl));
-      bads-in = tt;
-      sorted = (omega arith, omega arith, omega arith, omega arith, omega arith);
-      frees = λ g i f. frees g f;
-      covered = covered;
-    }
-  where
-    ordered : (g : ℕ) → Before P.nodes g (P.nodes g)
-    ordered zero = tt
-    ordered (suc zero) = tt
-    ordered (suc (suc zero)) = (omega arith, omega arith, omega arith)
-    ordered (suc (suc (suc g))) = tt
-
-    closed : (g : ℕ) → Operands P.reached (P.nodes g)
-    closed zero = tt
-    closed (suc zero) = tt
-    closed (suc (suc zero)) = (inl refl, inr (inl refl), inl refl)
-    closed (suc (suc (suc g))) = tt
-
-    divisions : (g : ℕ) → AllIn (reads (P.nodes g)) P.reached
-    divisions zero = tt
-    divisions (suc zero) = tt
-    divisions (suc (suc zero)) = tt
-    divisions (suc (suc (suc g))) = tt
-
-    frees : (g : ℕ) → IsFree (P.nodes g) → (2 ≤ P.base g) × (P.base g < P.count) × (P.origin (P.base g) ≡ g) × Free (rows_of P) (P.base g)
-    frees zero f = (omega arith, omega arith, refl, (inl (omega arith), tt))
-    frees (suc zero) f = (omega arith, omega arith, refl, (inl (omega arith), tt))
-    frees (suc (suc zero)) f = absurd f
-    frees (suc (suc (suc g))) f = absurd f
-
-    taken : (4 < 4) ⊎ (4 < 4) → ⊥
-    taken (inl h) = omega arith
-    taken (inr h) = omega arith
-
-    covered : (q : ℕ) → 2 ≤ q → q < P.count → Free (rows_of P) q → (g : ℕ) × In g P.reached × IsFree (P.nodes g) × (P.base g ≡ q)
-    covered zero l h f = absurd (omega arith)
-    covered (suc zero) l h f = absurd (omega arith)
-    covered (suc (suc zero)) l h f = (0, inl refl, tt, refl)
-    covered (suc (suc (suc zero))) l h f = (1, inr (inl refl), tt, refl)
-    covered (suc (suc (suc (suc zero)))) l h f = absurd (taken f.0)
-    covered (suc (suc (suc (suc (suc q))))) l h f = absurd (omega arith)
-
--- so demand 3 holds of P's tables
-pub P-demand : Demand3 5 P []
-unfolding name clash_after
-P-demand = demand-3 5 P P-numbering (record { fits = omega arith; names = omega arith }) [] tt (clash-none (fixes P []) refl)

@@ -1,4 +1,5 @@
 -- Every step of the build keeps the tables' size, and every pair is of two qubits of the model, the lower first.
+-- The theorems that an edit of a definition breaks are in proofs/Sized.antt.
 -- Assumes nothing.
 use Rattle.std.specs.Prelude.{◌≡◌, refl, ◌⊎◌, ◌≢◌, Bool, cond, ℕ, suc, ◌+◌, ◌*◌, ◌≤◌, ◌<◌, eqb, ltb, ℤ, pos, ◌+ℤ◌, set}
 use Rattle.std.proofs.Common.{sym, ◌∙◌, inl, inr, arith, length-set}
@@ -10,7 +11,7 @@ use Rattle.laws.specs.Test.{by_eqb, by-ltb}
 use Rattle.penalty.specs.Rows.{Slot, Place, singles, twos, row_of}
 use Rattle.penalty.specs.declared.Penalty.{Penalty}
 use Rattle.energy.specs.Plain.{Row, wire, more, Sorted, sorted-le, wire-below}
-use Rattle.energy.specs.Model.{Entry, Model, Sized, Inside, key_of, low, high, empty, is_zero, add_offset, join_linear, add, join_pair, add_linear, add_pair, halves, add_linears, add_pairs, place, place_all, gated, touches, neighbour, give, without, clear, fix, half, quarter, weights, quarters, ends, ising}
+use Rattle.energy.specs.Model.{Entry, Model, Sized, Inside, key_of, low, high, empty, is_zero, add_offset, join_linear, add, join_pair, add_linear, add_pair, halves, add_linears, add_pairs, place, place_all, touches, without, clear, half, quarter, weights, quarters, ends, ising}
 
 -- ---- keys
 
@@ -207,16 +208,6 @@ module _ (n : ℕ) where
   sized-place_all [] w m s = s
   sized-place_all (r ∷ rs) w m s = sized-place_all rs w.1 _ (sized-place (wire r) w.0 (row_of r.kind) m s)
 
-  -- the pairs that go to their neighbours keep the size
-  pub sized-give : (q : ℕ) (b : Bool) (l : List Entry) (m : Model) → Sized n m → Sized n (give q b l m)
-  unfolding give
-  sized-give q b [] m s = s
-  sized-give q b (e ∷ l) m s = sized-give q b l _ (go (touches q e.0))
-    where
-      go : (t : Bool) → Sized n (cond t (add_linear (neighbour q e.0) (gated b e.1) m) m)
-      go true = sized-add_linear (neighbour q e.0) (gated b e.1) m s
-      go false = s
-
   -- taking a qubit's own entries out keeps the size
   pub sized-clear : (q : ℕ) (b : Bool) (m : Model) → Sized n m → Sized n (clear q b m)
   sized-clear q b m s =
@@ -228,11 +219,6 @@ module _ (n : ℕ) where
         inside = inside-without n q m.pairs s.inside;
         names = s.names;
       }
-
-  -- fixing keeps the size
-  pub sized-fix : (q : ℕ) (b : Bool) (m : Model) → Sized n m → Sized n (fix q b m)
-  unfolding fix
-  sized-fix q b m s = sized-clear q b _ (sized-give q b m.pairs m s)
 
   -- the numbers that join both ends of each pair keep the size
   pub sized-ends : (l : List Entry) (m : Model) → Sized n m → Sized n (ends l m)

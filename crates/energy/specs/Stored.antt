@@ -15,7 +15,8 @@ use Rattle.laws.specs.Solve.{solve, v, ◌⊕◌}
 use Rattle.laws.specs.Test.{by_eqb, by-ltb}
 use Rattle.penalty.specs.declared.Penalty.{Penalty}
 use Rattle.penalty.specs.Rows.{Slot, Place, singles, twos, row_of}
-use Rattle.penalty.specs.Penalises.{sum_at, energy, row_energy, penalises}
+use Rattle.penalty.specs.Penalises.{sum_at, energy, row_energy}
+use Rattle.penalty.proofs.Penalises.{penalises}
 use Rattle.energy.specs.Plain.{Setting, Row, wire, seen, plain}
 use Rattle.energy.specs.Model.{Entry, Model, Sized, Inside, key_of, low, high, empty, is_zero, add_offset, join_linear, add, join_pair, add_linear, add_pair, halves, add_linears, add_pairs, place, place_all, gated, signed, linear_by, pairs_by, energy_by, binary_energy}
 use Rattle.energy.specs.Sized.{Ends, key_of-ends, Wired, sized-empty, sized-add_offset, sized-add_linear, sized-add_linears, sized-add_pair, sized-place}

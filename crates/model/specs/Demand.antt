@@ -11,7 +11,8 @@ use Rattle.energy.specs.Numbering.{AllIn, joined, name_in, top}
 use Rattle.energy.specs.Model.{Model, empty, place_all}
 use Rattle.energy.specs.Fixing.{Fixes, fix_all}
 use Rattle.energy.specs.Clash.{none, clash, clash-none}
-use Rattle.energy.specs.Finished.{forced, fixes, in_form, Known, Demand3, demand-3}
+use Rattle.energy.specs.Finished.{forced, fixes, in_form, Known, Demand3}
+use Rattle.energy.proofs.Finished.{demand-3}
 use Rattle.energy.specs.Finished as energy
 use Rattle.numbering.specs.State.{State, slot, qubit_of, names_of}
 use Rattle.numbering.specs.Laws.{AllHave}

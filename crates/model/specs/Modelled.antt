@@ -13,10 +13,12 @@ use Rattle.energy.specs.Circuit.{Circuit, Constraint}
 use Rattle.energy.specs.Model as energy
 use Rattle.energy.specs.Model.{Entry, Model, Sized, empty, add, quarters, ends, ising, variables, weights, mass}
 use Rattle.energy.specs.Mass.{mass-place_all, mass-empty}
-use Rattle.energy.specs.Fixing.{Fixes, fix_all, placed-fixed, sized-fix_all}
+use Rattle.energy.specs.Fixing.{Fixes, fix_all, placed-fixed}
+use Rattle.energy.proofs.Fixing.{sized-fix_all}
 use Rattle.energy.specs.Clash.{none, at, clash}
 use Rattle.energy.specs.Sized.{turned}
-use Rattle.energy.specs.Finished.{in_form, fixes-within, sized-model}
+use Rattle.energy.specs.Finished.{in_form, sized-model}
+use Rattle.energy.proofs.Finished.{fixes-within}
 use Rattle.circuit.specs.File.{field}
 use Rattle.circuit.specs.Meaning.{circuit_of}
 use Rattle.circuit.specs.Count.{get_d_of}

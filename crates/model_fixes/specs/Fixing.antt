@@ -11,11 +11,13 @@ use Rattle.std.proofs.Math.ListN.{length, take, drop, drop_of_length-le}
 use Rattle.std.proofs.Math.Seq.{take-length}
 use Rattle.energy.specs.Circuit.{Circuit, Constraint}
 use Rattle.energy.specs.Model.{Entry, Model, Sized, touches, without, fix, mass}
-use Rattle.energy.specs.Fixing.{mark, Fixes, Within, fix_all, fix-pairs}
+use Rattle.energy.specs.Fixing.{mark, Fixes, Within, fix_all}
+use Rattle.energy.proofs.Fixing.{fix-pairs}
 use Rattle.energy.specs.Clash.{none, at, clash, clash_in, clash-table, clash-none}
-use Rattle.energy.specs.Once.{enter, enter_all, sifted, enter_all-pairs, sized-enter_all, mass-enter_all, once-fix_all}
+use Rattle.energy.specs.Once.{enter, enter_all, sifted, enter_all-pairs, sized-enter_all, mass-enter_all}
+use Rattle.energy.proofs.Once.{once-fix_all}
 use Rattle.energy.specs.Finished.{forced}
-use Rattle.energy.specs.Mass.{mass-fix}
+use Rattle.energy.proofs.Mass.{mass-fix}
 use Rattle.store_pairs.specs.Store.{zip, front}
 use Rattle.circuit.specs.File.{field, byte1}
 use Rattle.circuit.specs.Meaning.{constraint_at, circuit_of}

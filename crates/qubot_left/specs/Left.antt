@@ -11,11 +11,13 @@ use Rattle.energy.specs.Circuit.{Circuit}
 use Rattle.energy.specs.Plain.{Row}
 use Rattle.energy.specs.Model.{Entry, Model, Sized, mass, empty, place_all, quarters}
 use Rattle.energy.specs.Sized.{sized-ising}
-use Rattle.energy.specs.Mass.{mass-place_all, mass-empty, mass-ising}
+use Rattle.energy.specs.Mass.{mass-place_all, mass-empty}
+use Rattle.energy.proofs.Mass.{mass-ising}
 use Rattle.energy.specs.Fixing.{fix_all}
 use Rattle.energy.specs.Ising.{ising-pairs}
 use Rattle.energy.specs.Clash.{Clash, none, at, clash}
-use Rattle.energy.specs.Finished.{Room, in_form, sized-finished}
+use Rattle.energy.specs.Finished.{Room, in_form}
+use Rattle.energy.proofs.Finished.{sized-finished}
 use Rattle.energy.specs.Finished as energy
 use Rattle.circuit.specs.declared.Checked.{Checked}
 use Rattle.circuit.specs.declared.Checked.TheVariants.{Accepted, Refused as Rejected}
@@ -23,7 +25,8 @@ use Rattle.circuit.specs.declared.Refusal.{Refusal}
 use Rattle.circuit.specs.Check.{checked, counts_of}
 use Rattle.circuit.specs.Meaning.{circuit_of}
 use Rattle.circuit.specs.declared.Counts.{Counts}
-use Rattle.circuit.specs.Accepted.{Sound, CountsAre, counts-are, accepts, well-formed}
+use Rattle.circuit.specs.Accepted.{Sound, CountsAre, counts-are, well-formed}
+use Rattle.circuit.proofs.Accepted.{accepts}
 use Rattle.numbering.specs.State.{State, names_of}
 use Rattle.numbering.specs.Numbered.{Outcome, refused, numbered, number, named_of, rows_of}
 use Rattle.numbering.specs.Finished.{Formed, Finished as Named·finished, finished, numbering}

@@ -13,7 +13,8 @@ use Rattle.circuit.specs.declared.Refusal.{Refusal}
 use Rattle.circuit.specs.declared.Refusal.TheVariants.{HasQubit, FixedTwice}
 use Rattle.circuit.specs.Check.{checked}
 use Rattle.circuit.specs.Meaning.{circuit_of}
-use Rattle.circuit.specs.Accepted.{CountsAre, Accepts, accepts}
+use Rattle.circuit.specs.Accepted.{CountsAre, Accepts}
+use Rattle.circuit.proofs.Accepted.{accepts}
 use Rattle.numbering.specs.State.{names_of}
 use Rattle.model_place.specs.Blank.{pairs_of}
 use Rattle.qubot_fill.specs.declared.Filled.{Filled}

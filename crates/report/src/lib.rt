@@ -1,6 +1,7 @@
 // The lines of an answer, into a lent buffer: what the programs print. What is printed is a definition of the crate `report_lines`; a byte past the buffer's end is counted
 // and not stored, and no answer has more than 1,674 bytes.
 #![tactic(auto)]
+
 ghost use Rattle.std.specs.Prelude.{◌≡◌, ◌++◌, ◌≤◌, take};
 ghost use Rattle.text.specs.Paste.{Printed};
 ghost use Rattle.text.specs.Text.{lines};

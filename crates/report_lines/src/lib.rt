@@ -1,5 +1,6 @@
 // The lines of a run, each into a lent buffer. What a line says is a definition of specs/; a byte past the buffer's end is counted and not stored.
 #![tactic(auto)]
+
 ghost use Rattle.std.specs.Prelude.{◌+◌, ◌*◌, ◌^◌, ◌≤◌, ◌<◌, length, take};
 ghost use Rattle.text.specs.Paste.{Printed, Room};
 ghost use Rattle.text.specs.Text.{lines};

@@ -11,12 +11,15 @@ use Rattle.energy.specs.Circuit.{Circuit}
 use Rattle.energy.specs.Model.{Entry, Model, low, high, Inside, sizes, mass, weights, quarters}
 use Rattle.energy.specs.Mass.{offset-within}
 use Rattle.energy.specs.Clash.{none, clash}
-use Rattle.energy.specs.Rising.{Above, Rising, built-rising}
+use Rattle.energy.specs.Rising.{Above, Rising}
+use Rattle.energy.proofs.Rising.{built-rising}
 use Rattle.energy.specs.Ising.{ising-has_row, ising-pairs}
 use Rattle.energy.specs.Gone.{Apart, Gone}
-use Rattle.energy.specs.Count.{Rowed, finished-rowed}
+use Rattle.energy.specs.Count.{Rowed}
+use Rattle.energy.proofs.Count.{finished-rowed}
 use Rattle.energy.specs.Numbering.{Numbering, rows}
-use Rattle.energy.specs.Finished.{fixes, in_form, sized-finished}
+use Rattle.energy.specs.Finished.{fixes, in_form}
+use Rattle.energy.proofs.Finished.{sized-finished}
 use Rattle.energy.specs.Finished as energy
 use Rattle.circuit.specs.declared.Counts.{Counts}
 use Rattle.circuit.specs.File.{count_of}
@@ -43,7 +46,7 @@ use Rattle.qubot_left.specs.Proved.{state_in, state-read}
 use Rattle.run_meaning.specs.Layout.{Stacked, Flags, Modeled, RunReady}
 use Rattle.run_meaning.specs.Runs.{run-ready}
 use Rattle.run_meaning.specs.Ran.{built_of, ran}
-use Rattle.energy.specs.Beyond.{beyond}
+use Rattle.energy.proofs.Beyond.{beyond}
 use Rattle.run_left.specs.Cut.{ran-cut}
 use Rattle.run_left.specs.Evaluated.{built_in}
 

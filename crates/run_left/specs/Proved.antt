@@ -12,7 +12,8 @@ use Rattle.energy.specs.Plain.{Setting}
 use Rattle.energy.specs.Numbering.{In, Named, name_in}
 use Rattle.energy.specs.Model.{Model, energy_in, binary_energy}
 use Rattle.energy.specs.Fixing.{complete}
-use Rattle.energy.specs.Finished.{fixes, Hit, OwnRunOnly, AtLeastTwo, name_below}
+use Rattle.energy.specs.Finished.{fixes, Hit, OwnRunOnly, AtLeastTwo}
+use Rattle.energy.proofs.Finished.{name_below}
 use Rattle.energy.specs.Finished as energy
 use Rattle.circuit.specs.declared.Refusal.{Refusal}
 use Rattle.circuit.specs.declared.Refusal.TheVariants.{FewValues, OtherCount}

@@ -21,7 +21,8 @@ use Rattle.energy.specs.Numbering.{Named, Numbering}
 use Rattle.energy.specs.Model.{Entry, Model, low, high, gated, signed, linear_by, pairs_by, energy_by, binary_energy, energy_in, mass}
 use Rattle.energy.specs.Mass.{energy-size}
 use Rattle.energy.specs.Fixing.{complete}
-use Rattle.energy.specs.Finished.{Room, Known, model, finished, fixes, in_form, after-fixing, either-form}
+use Rattle.energy.specs.Finished.{Room, Known, model, finished, fixes, in_form}
+use Rattle.energy.proofs.Finished.{after-fixing, either-form}
 use Rattle.run_values.specs.Need.{table, put, Net, fixed_at, step, need_of}
 use Rattle.run_rules.specs.Layout.{Formed}
 use Rattle.run_values.specs.Fuel.{need_of-step}

@@ -4,10 +4,11 @@ use Rattle.std.specs.Prelude.{Bool, true, false, cond, List, [], ◌∷◌, ◌+
 use Rattle.std.proofs.Common.{sym, ap, ◌∙◌, subst, le_refl, arith, length-take, take-append-drop, length-take-le}
 use Rattle.std.proofs.Math.Seq.{drop-append_seam}
 use Rattle.energy.specs.Model.{Entry, Model, Sized, low, high, join_linear, touches, without, fix, quarters, ising, ends, mass}
-use Rattle.energy.specs.Mass.{mass-fix, mass-ising}
+use Rattle.energy.proofs.Mass.{mass-fix, mass-ising}
 use Rattle.energy.specs.Sized.{turned}
-use Rattle.energy.specs.Fixing.{give-pairs}
-use Rattle.energy.specs.Sized.{sized-fix, sized-ising}
+use Rattle.energy.proofs.Fixing.{give-pairs}
+use Rattle.energy.specs.Sized.{sized-ising}
+use Rattle.energy.proofs.Sized.{sized-fix}
 use Rattle.store_pairs.specs.Store.{none, over}
 use Rattle.store_pairs.specs.Over.{take-over, length_over, over_zeros, over-more}
 use Rattle.store.specs.Tables.{Tables, model_of, hold, Ready}

@@ -11,7 +11,8 @@ use mir.Syntax.{w64}
 use mir.Val.{SFits}
 use Rattle.laws.specs.Abs.{fits-abs}
 use Rattle.energy.specs.Model.{Model, gated, give, without, clear, fix, sizes, mass}
-use Rattle.energy.specs.Mass.{mass-fix, offset-within}
+use Rattle.energy.specs.Mass.{offset-within}
+use Rattle.energy.proofs.Mass.{mass-fix}
 use Rattle.store_pairs.specs.Store.{zip, over, load}
 use Rattle.store.specs.Tables.{tables, model_of, hold, with_linear, Ready}
 use Rattle.store_fix.specs.Fixing.{Taking}

@@ -1,3 +1,4 @@
+-- `decimals::read_digits` meets its contract.
 use Rattle.std.proofs.Common.{◌≡◌, sym, ap, ◌∙◌, List, ◌∷◌, ℕ, ◌+◌, ◌<◌, add-one, arith, length, drop, get_or, drop_of_length-le, drop-cons}
 use Rattle.decimals.specs.Value.{digits_up_to}
 use Rattle.decimals.specs.Upto.{up_to, up-to-start, up-to-none, up-to-end, up-to-digit, up-to-below, up-to-above, up-to-large}

@@ -1,4 +1,4 @@
--- `decimals::read_digits` meets its contract. The loop: the number so far and the bytes left come to what all bytes come to.
+-- `decimals::read_digits`: the number so far and the bytes left come to what all bytes come to.
 use Rattle.std.proofs.Common.{◌≡◌, ◌-◌, ◌≤◌, length, drop}
 use Rattle.decimals.specs.Value.{digits_up_to}
 use Rattle.decimals.specs.Upto.{up_to}

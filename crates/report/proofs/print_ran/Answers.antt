@@ -5,7 +5,10 @@ use Rattle.report_lines.specs.Length.{hit-length}
 use Rattle.report.proofs.print_ran.Goals as goal
 
 pub put_hit-requires : goal.put_hit-requires
-put_hit-requires c = record { below = omega (arith, c.put_bads-last.ensures.1, c.put_energy-first.ensures.1, hit-length c.args.hit, c.requires) }
+put_hit-requires c = record { below = omega (arith, c.put_bads-last.ensures.upper_bound, c.put_energy-first.ensures.upper_bound, hit-length c.args.hit, c.requires) }
 
 pub returns : goal.returns
-returns c = (then c.put_energy-first.ensures.0 (then c.put_bads-last.ensures.0 c.put_hit.ensures), omega (arith, c.put_bads-last.ensures.1, c.put_energy-first.ensures.1, hit-length c.args.hit, c.requires, c.put_hit.ensures.place))
+returns c = record {
+  printed = then c.put_energy-first.ensures.printed (then c.put_bads-last.ensures.printed c.put_hit.ensures);
+  upper_bound = omega (arith, c.put_bads-last.ensures.upper_bound, c.put_energy-first.ensures.upper_bound, hit-length c.args.hit, c.requires, c.put_hit.ensures.place);
+}

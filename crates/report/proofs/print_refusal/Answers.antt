@@ -1,5 +1,7 @@
 -- `report::print_refusal` meets its contract. The line is short, so there are places for it.
-use Rattle.std.proofs.Common.{◌≡◌, sym, [], ◌∷◌, ◌++◌, ◌≤◌, arith, length}
+use Rattle.std.proofs.Common.{◌≡◌, ℕ, ◌^◌, ◌<◌, [], ◌∷◌, ◌++◌, ◌≤◌, arith, length}
+use Rattle.circuit.specs.declared.Refusal.{Refusal}
+use Rattle.circuit.specs.Refusals.{number_of, place_of}
 use Rattle.text.specs.Bytes.{bytes}
 use Rattle.text.specs.Decimal.{decimal}
 use Rattle.text.specs.Text.{lead_text, newline}
@@ -9,24 +11,26 @@ use Rattle.report_lines.specs.Length.{refusal-length}
 use Rattle.report.proofs.print_refusal.Goals as goal
 
 -- the line, by the number and the place that the code has found
-says : (c : goal.After-place_of-place) → refusal_line c.args.r ≡ bytes "refused " ++ (lead_text c.number_of-number.result ++ (decimal c.place_of-place.result ++ (newline ∷ [])))
+says : (r : Refusal) (n p : ℕ) → n ≡ number_of r → p ≡ place_of r → refusal_line r ≡ bytes "refused " ++ (lead_text n ++ (decimal p ++ (newline ∷ [])))
 unfolding refusal_line
-says c = rw (sym c.number_of-number.ensures, sym c.place_of-place.ensures)
+says r n p e f = rw (e, f)
 
-short : (c : goal.After-place_of-place) → length (refusal_line c.args.r) ≤ 32
-short c = refusal-length _ (omega (arith, c.place_of-place.ensures, c.place_of-place.type-inv))
+short : (r : Refusal) (p : ℕ) → p ≡ place_of r → p < 2 ^ 64 → length (refusal_line r) ≤ 32
+short r p f l = refusal-length _ (omega (arith, f))
 
-room : (c : goal.After-place_of-place) → Room 0 (bytes "refused " ++ (lead_text c.number_of-number.result ++ (decimal c.place_of-place.result ++ (newline ∷ []))))
-room c = room_as (says c) (record { below = omega (arith, short c) })
+room : (r : Refusal) (n p : ℕ) → n ≡ number_of r → p ≡ place_of r → p < 2 ^ 64 → Room 0 (bytes "refused " ++ (lead_text n ++ (decimal p ++ (newline ∷ []))))
+room r n p e f l = room_as (says r n p e f) (record { below = omega (arith, short r p f l) })
 
 pub put_lead-second-requires : goal.put_lead-second-requires
-put_lead-second-requires c = room-first _ (room-second c.put_bytes-first.ensures (room c))
+put_lead-second-requires c = room-first _ (room-second c.put_bytes-first.ensures (room c.args.r _ _ c.number_of-number.ensures c.place_of-place.ensures (omega arith)))
 
 pub put_decimal-end-requires : goal.put_decimal-end-requires
-put_decimal-end-requires c = room-first _ (room-second c.put_lead-second.ensures (room-second c.put_bytes-first.ensures (room c)))
+put_decimal-end-requires c = room-first _ (room-second c.put_lead-second.ensures (room-second c.put_bytes-first.ensures (room c.args.r _ _ c.number_of-number.ensures c.place_of-place.ensures (omega arith))))
 
 pub put-requires : goal.put-requires
-put-requires c = room-second c.put_decimal-end.ensures (room-second c.put_lead-second.ensures (room-second c.put_bytes-first.ensures (room c)))
+put-requires c = room-second c.put_decimal-end.ensures (room-second c.put_lead-second.ensures (room-second c.put_bytes-first.ensures (room c.args.r _ _ c.number_of-number.ensures c.place_of-place.ensures (omega arith))))
 
 pub returns : goal.returns
-returns c = within 32 (short c) (printed-as (says c) (then c.put_bytes-first.ensures (then c.put_lead-second.ensures (then c.put_decimal-end.ensures c.put.ensures))))
+returns c =
+    let p = within 32 (short c.args.r _ c.place_of-place.ensures (omega arith)) (printed-as (says c.args.r _ _ c.number_of-number.ensures c.place_of-place.ensures) (then c.put_bytes-first.ensures (then c.put_lead-second.ensures (then c.put_decimal-end.ensures c.put.ensures)))) in
+    record { printed = p.0; upper_bound = p.1 }

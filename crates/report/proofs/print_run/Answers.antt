@@ -12,7 +12,10 @@ unfolding run_lines
 says r o n e f = ap₂ (λ (o : Outcome) (n : ℕ). outcome_lines o (take n r.nids)) e (sym f)
 
 pub returns-in-Ran : goal.returns-in-Ran
-returns-in-Ran c = (printed-as (says _ _ _ c.in-Ran.is c.lesser-count.ensures) c.print_ran.ensures.0, c.print_ran.ensures.1)
+returns-in-Ran c = record { printed = printed-as (says _ _ _ c.in-Ran.is c.lesser-count.ensures) c.print_ran.ensures.printed; upper_bound = c.print_ran.ensures.upper_bound }
 
 pub returns-in-Refused : goal.returns-in-Refused
-returns-in-Refused c = (printed-as (says _ _ _ c.in-Refused.is c.lesser-count.ensures) c.print_refusal.ensures.0, omega (arith, c.print_refusal.ensures.1))
+returns-in-Refused c = record {
+  printed = printed-as (says _ _ _ c.in-Refused.is c.lesser-count.ensures) c.print_refusal.ensures.printed;
+  upper_bound = omega (arith, c.print_refusal.ensures.upper_bound);
+}

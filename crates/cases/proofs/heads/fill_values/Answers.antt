@@ -1,4 +1,5 @@
-use Rattle.std.proofs.Common.{to_z-of_z, SFits, w64, rules, refl, ◌∙◌, ◌-◌}
+-- `heads::fill_values` meets its contract.
+use Rattle.std.proofs.Common.{to_z-of_z, SFits, w64, rules, refl, ◌∙◌}
 use Rattle.cases.proofs.Filled.{none_filled, one_more, done}
 use Rattle.cases.proofs.heads.fill_values.Goals as goal
 
@@ -7,7 +8,7 @@ loop-i-init c = (search rules, refl, none_filled _ _)
 
 pub loop-i-preserved : goal.loop-i-preserved
 loop-i-preserved c =
-    let fits : SFits w64 c.value_at-z.result = record { sfits = c.value_at-z.type-inv } in (
+    let fits : SFits w64 c.value_at-z.result = record { sfits = c.value_at-z.type_inv } in (
       search rules,
       search rules,
       one_more _ _ _ _ _ (search rules) c.loop-i.invariant.2 (to_z-of_z fits ∙ c.value_at-z.ensures),

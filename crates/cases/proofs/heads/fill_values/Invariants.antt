@@ -1,4 +1,4 @@
--- `heads::fill_values` meets its contract: the values so far stand at the front of the table, and the entries past them are as before.
+-- `heads::fill_values`: the values so far stand at the front of the table, and the entries past them are as before.
 use Rattle.std.proofs.Common.{length, drop, ◌++◌, ◌≡◌, ◌-◌, ◌≤◌}
 use Rattle.cases.specs.Values.{values_of}
 use Rattle.cases.proofs.heads.fill_values.Given as goal

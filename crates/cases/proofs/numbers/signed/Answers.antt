@@ -29,17 +29,14 @@ turn k h =
     let second : SFits w64 (back (pos 0 -ℤ to_z w64 k) -ℤ pos 1) = subst (SFits w64) (sym less) (record { sfits = omega arith }) in
     record { first = first; second = second; is = to_z-of_z second ∙ less }
 
-turned : (c : goal.Else-u-lt9223372036854775808) → Turned (18446744073709551615 - c.args.u)
-turned c = turn (18446744073709551615 - c.args.u) (omega arith)
-
 pub overflow_sub-result : goal.overflow_sub-result
-overflow_sub-result c = (turned c).first
+overflow_sub-result c = (turn (18446744073709551615 - c.args.u) (omega arith)).first
 
 pub overflow_sub-result-else-u-lt9223372036854775808 : goal.overflow_sub-result-else-u-lt9223372036854775808
-overflow_sub-result-else-u-lt9223372036854775808 c = (turned c).second
+overflow_sub-result-else-u-lt9223372036854775808 c = (turn (18446744073709551615 - c.args.u) (omega arith)).second
 
 pub returns-then-u-lt9223372036854775808 : goal.returns-then-u-lt9223372036854775808
 returns-then-u-lt9223372036854775808 c = rw (lt-ltb _ _ c.if-u-lt9223372036854775808.true)
 
 pub returns-else-u-lt9223372036854775808 : goal.returns-else-u-lt9223372036854775808
-returns-else-u-lt9223372036854775808 c = rw (le-ltb _ _ c.if-u-lt9223372036854775808.false) (turned c).is
+returns-else-u-lt9223372036854775808 c = rw (le-ltb _ _ c.if-u-lt9223372036854775808.false) (turn (18446744073709551615 - c.args.u) (omega arith)).is

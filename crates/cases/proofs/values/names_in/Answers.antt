@@ -1,4 +1,5 @@
-use Rattle.std.proofs.Common.{arith, ◌-◌}
+-- `values::names_in` meets its contract.
+use Rattle.std.proofs.Common.{arith}
 use Rattle.cases.proofs.Names.{none_passed, one_more, stops, all-passed}
 use Rattle.cases.proofs.values.names_in.Goals as goal
 

@@ -1,4 +1,4 @@
--- `values::names_in` meets its contract: the bytes passed are values.
+-- `values::names_in`: the bytes passed are values.
 use Rattle.std.proofs.Common.{length, ◌-◌, ◌≤◌}
 use Rattle.cases.proofs.Names.{Passed}
 use Rattle.cases.proofs.values.names_in.Given as goal

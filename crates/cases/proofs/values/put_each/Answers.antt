@@ -1,7 +1,8 @@
-use Rattle.std.proofs.Common.{arith, drop-cons, get_or-take, length, take, drop, get_or, length-take, drop_of_length-le, add-one, ℕ, ◌+◌, ◌-◌, ◌≤◌, ◌<◌, List, [], ◌++◌, ◌≡◌, ap}
+-- `values::put_each` meets its contract.
+use Rattle.std.proofs.Common.{arith, drop-cons, get_or-take, length, take, drop, get_or, length-take, drop_of_length-le, add-one, ℕ, ◌+◌, ◌≤◌, ◌<◌, List, [], ◌++◌, ◌≡◌, ap}
 use Rattle.cases.specs.Lines.{value_text}
 use Rattle.text.specs.Text.{lines}
-use Rattle.text.specs.Left.{Left, left-start, left_as, left-print, left_end}
+use Rattle.text.specs.Left.{left-start, left_as, left-print, left_end}
 use Rattle.cases.proofs.values.put_each.Goals as goal
 
 -- the value that comes next
@@ -13,20 +14,14 @@ coming s n k h l =
 none : (s : List ℕ) (n k : ℕ) → n ≤ k → lines value_text (drop k (take n s)) ≡ []
 none s n k h = let out : length (take n s) ≤ k = simp length-take (omega arith) in ap (lines value_text) (drop_of_length-le (take n s) out)
 
-next : (c : tie.In-loop invariant-loop decreases-loop)
-    → Left (lines value_text (take c.before.before.before.before.args.n c.before.before.before.before.args.values.now)) c.before.before.before.before.args.buf.now c.before.before.before.before.args.at
-    (value_text (get_or c.before.before.before.before.args.values.now c.before.loop.k 0) ++ lines value_text (drop (c.before.loop.k + 1) (take c.before.before.before.before.args.n c.before.before.before.before.args.values.now)))
-    c.before.loop.buf c.before.loop.next
-next c = left_as (coming _ _ _ c.before.before.before.before.requires.0 c.loop-test.true) c.before.loop.invariant.2
-
 pub loop-k-init : goal.loop-k-init
 loop-k-init c = (omega arith, omega arith, left-start)
 
 pub loop-k-preserved : goal.loop-k-preserved
-loop-k-preserved c = (omega arith, omega (arith, c.put_value-next.ensures.place), left-print (next c) c.put_value-next.ensures)
+loop-k-preserved c = (omega arith, omega (arith, c.put_value-next.ensures.place), left-print (left_as (coming _ _ _ c.requires.0 c.loop-k-test.true) c.loop-k.invariant.2) c.put_value-next.ensures)
 
 pub shape_of-buf : goal.shape_of-buf
 shape_of-buf c = c.loop-k.invariant.2.size
 
 pub returns : goal.returns
-returns c = (left_end (left_as (none _ _ _ c.loop-k-test.false) c.loop-k.invariant.2), omega arith)
+returns c = record { printed = left_end (left_as (none _ _ _ c.loop-k-test.false) c.loop-k.invariant.2); value = omega arith }

@@ -7,7 +7,7 @@ use Rattle.cases.proofs.values.put_values.Goals as goal
 pub returns : goal.returns
 unfolding values_line
 returns c =
-    (
-  printed-as (ap values_line (sym c.names_in-n.ensures.1)) (then c.put_bytes-first.ensures (then c.put_each-end.ensures.0 c.put.ensures)),
-  omega (arith, c.names_in-n.ensures.0, c.put_bytes-first.ensures.place, c.put_each-end.ensures.1, c.put.ensures.place),
-)
+    record {
+      printed = printed-as (ap values_line (sym c.names_in-n.ensures.1)) (then c.put_bytes-first.ensures (then c.put_each-end.ensures.printed c.put.ensures));
+      upper_bound = omega (arith, c.names_in-n.ensures.0, c.put_bytes-first.ensures.place, c.put_each-end.ensures.value, c.put.ensures.place);
+    }

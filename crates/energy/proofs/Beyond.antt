@@ -15,7 +15,8 @@ use Rattle.energy.specs.Plain.{Row, wire}
 use Rattle.energy.specs.Numbering.{Named, Numbering, rows}
 use Rattle.energy.specs.Model.{Entry, Model, empty, low, high, key_of, is_zero, join_linear, add, join_pair, add_pair, halves, add_linears, add_pairs, place, place_all}
 use Rattle.energy.specs.Sized.{Wired, Ends, key_of-ends, sorted-wired}
-use Rattle.energy.specs.Gone.{Apart, Gone, gone-join_linear, gone-add_linear, gone-later, gone-ising}
+use Rattle.energy.specs.Gone.{Apart, Gone, gone-join_linear, gone-add_linear}
+use Rattle.energy.proofs.Gone.{gone-later, gone-ising}
 use Rattle.energy.specs.Finished.{Room, fixes, model, finished, in_form}
 
 gone-empty : (n q : ℕ) → Gone q (empty n)

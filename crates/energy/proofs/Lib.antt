@@ -1,0 +1,19 @@
+-- The theorems that edits of definitions in specs/ break, each in a module named as the one of specs/ that its subject is told in.
+pub mod Plain
+pub mod Numbering
+pub mod Sized
+pub mod Mass
+pub mod Before
+pub mod Fixing
+pub mod Fours
+pub mod Ising
+pub mod Finished
+pub mod Lists
+pub mod Clash
+pub mod Samples
+pub mod Marks
+pub mod Rising
+pub mod Gone
+pub mod Beyond
+pub mod Count
+pub mod Once
