@@ -1,6 +1,7 @@
 // Times the checks 1 to 7: checks the file on standard input a thousand times, and writes in how many of them it was accepted. Each time the tables are said to
 // be longer by one, so that no two calls are the same.
 #![tactic(auto)]
+
 ghost use Rattle.std.specs.Prelude.{◌≤◌};
 
 use circuit::Checked;

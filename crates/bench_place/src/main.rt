@@ -1,5 +1,6 @@
 // Times placing and settling at 10,190 pairs: 1,019 full adders at qubits in no order, fifty times. It writes how many pairs the model has.
 #![tactic(auto)]
+
 ghost use Rattle.std.specs.Prelude.{[], ◌≡◌, ◌*◌, ◌<◌, ◌≤◌, length};
 ghost use Rattle.energy.specs.Model.{sizes, mass};
 ghost use Rattle.penalty.specs.Rows.{Slot};

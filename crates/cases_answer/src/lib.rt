@@ -1,5 +1,6 @@
 // The answer of a case, into a lent buffer.
 #![tactic(auto)]
+
 ghost use Rattle.std.specs.Prelude.{◌≤◌, max, length};
 ghost use Rattle.text.specs.Paste.{Printed};
 ghost use Rattle.run_meaning.specs.Ran.{done};

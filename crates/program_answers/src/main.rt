@@ -3,6 +3,7 @@
 // then what the model or run program writes, with no limit of 4,096 bytes; after a run also `values` and the value bytes of the model's names. A circuit longer
 // than any that passes check 2 is read past and answered `refused 2 0`. A stream that ends inside a case, or a form or a job over 1, ends with the line `malformed`.
 #![tactic(auto)]
+
 mod reading;
 
 ghost use Rattle.std.specs.Prelude.{◌≤◌, length};
@@ -21,7 +22,13 @@ fn write_malformed(rt: &HostRuntime) {
 }
 
 // Reads and answers what follows a head. Answers whether the stream goes on: not where the answer cannot be written.
-fn answer_case(rt: &HostRuntime, number: u64, asked: Asked, input: &mut [u8], out: &mut [u8]) -> io::Result<bool>
+fn answer_case(
+    rt: &HostRuntime,
+    number: u64,
+    asked: Asked,
+    input: &mut [u8],
+    out: &mut [u8],
+) -> io::Result<bool>
     requires { 7837 ≤ length out.old }
 {
     if read_case(rt, asked, input)? {

@@ -1,5 +1,6 @@
 // The two model programs, but for the form: a circuit from standard input, and its model's text, or its refusal, to standard output.
 #![tactic(auto)]
+
 use circuit::Refusal;
 use program_input::read_full;
 use program_output::{write_front, write_refusal};

@@ -1,5 +1,6 @@
 // A circuit from standard input, and the text of its model in the 0/1 form.
 #![tactic(auto)]
+
 use std::io;
 use units::Form;
 

@@ -1,5 +1,6 @@
 // What the programs write to standard output. Where it cannot be written, a line on standard error says why.
 #![tactic(auto)]
+
 ghost use Rattle.std.specs.Prelude.{◌≤◌, length};
 
 use circuit::Refusal;

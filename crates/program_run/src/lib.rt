@@ -1,6 +1,7 @@
 // The two run programs, but for the form: a circuit file and the values of its inputs as arguments, and the run's lines, or its refusal, to standard output.
 // What cannot be read is said in a line on standard error, and then nothing is written to standard output.
 #![tactic(auto)]
+
 ghost use Rattle.std.specs.Prelude.{IfOk, ◌≤◌, length};
 ghost use Rattle.program_run.specs.Inside.{Inside};
 
@@ -11,9 +12,8 @@ use program_output::{write_failure, write_refusal, write_run};
 use run::fresh::run_fresh;
 use std::env::{Env, FillError};
 use std::fs::File;
-use std::io;
 use std::io::{Error, ErrorKind};
-use std::str;
+use std::{io, str};
 use units::{Form, lesser};
 
 // What reading gave: that many bytes, or that it failed.

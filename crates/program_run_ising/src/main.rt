@@ -1,5 +1,6 @@
 // A circuit file and the values of its inputs as arguments, and the run's energy, its true bad states and the verdict, by the model in the Ising form.
 #![tactic(auto)]
+
 use units::Form;
 
 fn main(rt: HostRuntime) {

@@ -1,5 +1,6 @@
 // The build: from the bytes of a circuit to the finished model.
 #![tactic(auto)]
+
 ghost use Rattle.std.specs.Prelude.{◌≡◌};
 ghost use Rattle.qubot_left.specs.Built.{lent, built};
 

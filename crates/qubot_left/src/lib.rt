@@ -1,5 +1,6 @@
 // What a build answers. What it answers and leaves is a definition of specs/, and so is what follows of it.
 #![tactic(auto)]
+
 use circuit::Refusal;
 use units::Form;
 

@@ -1,5 +1,6 @@
 // A run, from the bytes of a circuit: `run` builds, and then gives the inputs their values on what the build left.
 #![tactic(auto)]
+
 ghost use Rattle.std.specs.Prelude.{◌≡◌};
 ghost use Rattle.qubot_left.specs.Built.{lent};
 ghost use Rattle.run_meaning.specs.Ran.{done};

@@ -1,5 +1,6 @@
 // A run on what a build left; or the build's refusal.
 #![tactic(auto)]
+
 ghost use Rattle.std.specs.Prelude.{◌≡◌};
 ghost use Rattle.circuit.specs.Check.{counts_of};
 ghost use Rattle.circuit.specs.Starts.{starts_of};

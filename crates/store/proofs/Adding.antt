@@ -73,11 +73,5 @@ gained-sizes q c l = go (is_zero c)
 
 -- ---- what is given times a value
 
-pub was-given : (on : Bool) (at : ℕ) (w w' : ℤ) (l l' : List ℤ) (h h' : List ℕ) → on ≡ true → w' ≡ w → l' ≡ gained at w' l → h' ≡ marked at w' h
-    → (l' ≡ gained at (gated on w) l) × (h' ≡ marked at (gated on w) h)
-was-given on at w w' l l' h h' o e p r =
-    let z : w' ≡ gated on w = e ∙ ap (λ (b : Bool). gated b w) (sym o) in
-    (p ∙ ap (λ (c : ℤ). gained at c l) z, r ∙ ap (λ (c : ℤ). marked at c h) z)
-
 pub not-given : (on : Bool) (at : ℕ) (w : ℤ) (l : List ℤ) (h : List ℕ) → on ≡ false → (l ≡ gained at (gated on w) l) × (h ≡ marked at (gated on w) h)
 not-given on at w l h o = not-gained at (gated on w) l h (ap (λ (b : Bool). gated b w) o)

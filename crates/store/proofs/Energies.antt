@@ -7,7 +7,7 @@ use Prim.Native.Nat.{ℕ, suc, ◌+◌, ◌≤◌, ◌<◌}
 use native.Mathlib.Numerals.{add-one}
 use native.Mathlib.Omega.{arith}
 use lib.Dec.{eqb}
-use lib.IntN.{ℤ, pos, nat_abs, ◌+ℤ◌, +ℤ_assoc, +ℤ_idl, +ℤ_idr}
+use lib.IntN.{ℤ, pos, nat_abs, ◌+ℤ◌, +ℤ_assoc, +ℤ_idr}
 use lib.ListN.{length, take, drop, get_or, drop_of_length-le}
 use lib.Seq.{slice, slice-cons, slice_empty, drop-cons}
 use mir.Syntax.{w64}
@@ -54,22 +54,9 @@ count_turn {h} {r} {n} {i} m same more k e =
       whole = rw add-one (omega (arith, m.whole, counted_step h r i more (omega arith)));
     }
 
-pub one_at_most : {h r : List ℕ} {n i : ℕ} → Counting h r n i → (k : ℕ) → k ≡ one_at h r i → n + k ≤ i + 1
-one_at_most {h} {r} {n} {i} m k e = omega (arith, m.small, one-small h r i)
-
 pub count-done : {h r : List ℕ} {n i : ℕ} → Counting h r n i → length h ≤ i → n ≡ counted h r
 count-done {h} {r} {n} {i} m done =
     omega (arith, m.whole, ap (λ (s : List ℕ). counted s (drop i r)) (drop_of_length-le h done), counted-nil (drop i r))
-
--- the count at one qubit, by the code's tests
-pub one-yes : (a b : Bool) → a ≡ true → ◌≡◌ {A = ℕ} 1 (cond (a || b) 1 0)
-one-yes a b e = ap (λ (c : Bool). cond (c || b) 1 0) (sym e)
-
-pub one-other : (a b : Bool) → a ≡ false → b ≡ true → ◌≡◌ {A = ℕ} 1 (cond (a || b) 1 0)
-one-other a b e d = ap₂ (λ (x y : Bool). cond (x || y) 1 0) (sym e) (sym d)
-
-pub one-no : (a b : Bool) → a ≡ false → b ≡ false → ◌≡◌ {A = ℕ} 0 (cond (a || b) 1 0)
-one-no a b e d = ap₂ (λ (x y : Bool). cond (x || y) 1 0) (sym e) (sym d)
 
 -- ---- the linear coefficients
 
@@ -82,9 +69,6 @@ pub record Weighing (form : Form) (σ : Setting) (l : List ℤ) (e : ℤ) (i : �
   pub within : i ≤ length l
   pub small : nat_abs e + sizes (drop i l) ≤ sizes l
   pub whole : e +ℤ linear_by (weight_in form) σ i (drop i l) ≡ linear_by (weight_in form) σ 0 l
-
-pub weigh-starts : (form : Form) (σ : Setting) (l : List ℤ) → Weighing form σ l (pos 0) 0
-weigh-starts form σ l = record { within = omega arith; small = omega arith; whole = +ℤ_idl (linear_by (weight_in form) σ 0 l) }
 
 linear-cons : (f : Bool → ℤ → ℤ) (σ : Setting) (q : ℕ) (c : ℤ) (cs : List ℤ) → linear_by f σ q (c ∷ cs) ≡ f (σ q) c +ℤ linear_by f σ (suc q) cs
 unfolding linear_by
@@ -133,10 +117,6 @@ pub record Joining (form : Form) (j : Bool → Bool → Bool) (σ : Setting) (k 
   pub small : nat_abs e + load (slice i n T) ≤ load (take n T)
   pub whole : e +ℤ pairs_by (weight_in form) j σ (slice i n T) ≡ pairs_by (weight_in form) j σ (take n T)
   pub inside : Inside k (slice i n T)
-
-pub join-starts : (form : Form) (j : Bool → Bool → Bool) (σ : Setting) (k : ℕ) (T : List Entry) (n : ℕ) → Inside k (take n T) → Joining form j σ k T n (pos 0) 0
-join-starts form j σ k T n inside =
-    record { within = omega arith; small = omega arith; whole = +ℤ_idl (pairs_by (weight_in form) j σ (take n T)); inside = inside }
 
 pairs-cons : (f : Bool → ℤ → ℤ) (j : Bool → Bool → Bool) (σ : Setting) (x : Entry) (s : List Entry)
     → pairs_by f j σ (x ∷ s) ≡ f (j (σ (low x.0)) (σ (high x.0))) x.1 +ℤ pairs_by f j σ s

@@ -5,9 +5,9 @@ use mathlib.Core.Path.{◌≡◌, refl, sym, ap, ap₂, ◌∙◌}
 use Prim.Native.Nat.{ℕ, suc, ◌+◌, ◌*◌, ◌^◌, ◌≤◌, ◌<◌}
 use native.Mathlib.Numerals.{add-one}
 use native.Mathlib.Omega.{arith}
-use lib.IntN.{ℤ, pos, negsuc, nat_abs, ◌+ℤ◌, +ℤ_assoc, +ℤ_idl, +ℤ_idr}
-use lib.ListN.{length, take, drop, set, get_or, length-set, take-append-drop, drop_of_length-le}
-use lib.Seq.{slice, slice-cons, slice_empty, take-suc-set, drop-set-lt, drop-cons, append_snoc, take_all, take-length, length-take-le}
+use lib.IntN.{ℤ, pos, negsuc, nat_abs, ◌+ℤ◌, +ℤ_assoc}
+use lib.ListN.{length, take, drop, set, get_or, length-set, take-append-drop}
+use lib.Seq.{slice, slice-cons, slice_empty, take-suc-set, drop-set-lt, append_snoc, take-length, length-take-le}
 use mir.Syntax.{w64}
 use mir.Val.{SFits}
 use Rattle.laws.specs.Abs.{abs-add, fits-abs}
@@ -35,9 +35,6 @@ pub record Summing (cs : List ℤ) (n i : ℕ) (s : ℤ) : Type 0 where
   pub small : nat_abs s + sizes (slice i n cs) ≤ sizes (take n cs)
   pub whole : s +ℤ sum (slice i n cs) ≡ sum (take n cs)
 
-pub sum-starts : (cs : List ℤ) (n : ℕ) → Summing cs n 0 (pos 0)
-sum-starts cs n = record { within = omega arith; small = omega arith; whole = +ℤ_idl (sum (take n cs)) }
-
 module _ {cs : List ℤ} {n i : ℕ} {s : ℤ} (m : Summing cs n i s) (fits : n ≤ length cs) (more : i < n) where
   sum-next : slice i n cs ≡ get_or cs i (pos 0) ∷ slice (i + 1) n cs
   sum-next = rw add-one (slice-cons i n cs (pos 0) more fits)
@@ -60,11 +57,6 @@ module _ {cs : List ℤ} {n i : ℕ} {s : ℤ} (m : Summing cs n i s) (fits : n 
             ∙ m.whole;
       }
 
-pub sum_done : {cs : List ℤ} {n i : ℕ} {s : ℤ} → Summing cs n i s → n ≤ i → s ≡ sum (take n cs)
-sum_done {cs} {n} {i} {s} m done =
-    let e : i ≡ n = omega arith in
-    sym (+ℤ_idr s) ∙ ap (λ (x : List ℤ). s +ℤ sum x) (sym (slice_empty n cs) ∙ ap (λ (k : ℕ). slice k n cs) (sym e)) ∙ m.whole
-
 -- ---- halves: what is halved and the halves of what is left are the whole
 
 pub record Halving (l₀ l : List ℤ) (i : ℕ) : Type 0 where
@@ -72,35 +64,7 @@ pub record Halving (l₀ l : List ℤ) (i : ℕ) : Type 0 where
   pub within : i ≤ length l₀
   pub whole : take i l ++ map half (drop i l) ≡ map half l₀
 
-pub halve-turn : {l₀ l : List ℤ} {i : ℕ} → Halving l₀ l i → i < length l → (c : ℤ) → c ≡ half (get_or l i (pos 0)) → Halving l₀ (set l i c) (i + 1)
-halve-turn {l₀} {l} {i} m more c e =
-    record {
-      kept = length-set l i c ∙ m.kept;
-      within = omega (arith, m.kept);
-      whole =
-          rw add-one (
-          ap₂ (λ (a b : List ℤ). a ++ map half b) (take-suc-set l i c more) (drop-set-lt (suc i) l i c (omega arith))
-          ∙ append_snoc (take i l) c (map half (drop (suc i) l))
-          ∙ ap (λ (z : ℤ). take i l ++ z ∷ map half (drop (suc i) l)) e
-          ∙ ap (λ (x : List ℤ). take i l ++ map half x) (sym (drop-cons l i (pos 0) more))
-          ∙ m.whole
-          );
-    }
-
-pub halve-done : {l₀ l : List ℤ} {i : ℕ} → Halving l₀ l i → length l ≤ i → l ≡ map half l₀
-halve-done {l₀} {l} {i} m done =
-    sym (ap₂ (λ (a b : List ℤ). a ++ map half b) (take_all i l done) (drop_of_length-le l done) ∙ append-nil l) ∙ m.whole
-
--- ---- both ends of a pair; c' is what the machine reads back of c
-
-pub ends-joined : (k : ℕ) (c c' : ℤ) (l l₁ l₂ : List ℤ) (h h₁ h₂ : List ℕ) → c' ≡ c
-    → l₁ ≡ set l (low k) (get_or l (low k) (pos 0) +ℤ c') → h₁ ≡ set h (low k) 1
-    → l₂ ≡ set l₁ (high k) (get_or l₁ (high k) (pos 0) +ℤ c') → h₂ ≡ set h₁ (high k) 1
-    → (m : Model) → with_linear l₂ h₂ m ≡ join_ends (k, c) (with_linear l h m)
-ends-joined k c c' l l₁ l₂ h h₁ h₂ e p r p₂ r₂ m =
-    ap₂ (λ (a : List ℤ) (b : List ℕ). with_linear a b m) p₂ r₂
-    ∙ ap₂ (λ (a : List ℤ) (b : List ℕ). with_linear (set a (high k) (get_or a (high k) (pos 0) +ℤ c')) (set b (high k) 1) m) p r
-    ∙ ap (λ (z : ℤ). join_ends (k, z) (with_linear l h m)) e
+-- ---- both ends of a pair
 
 ends-sizes : (x : Entry) (m : Model) → sizes (join_ends x m).linear ≤ sizes m.linear + 2 * nat_abs x.1
 ends-sizes x m =

@@ -43,13 +43,6 @@ pair-new p q c m f e =
 filled-other : (c : ℤ) → (c ≡ pos 0 → ⊥) → filled_by c ≡ 1
 filled-other c f = ap (λ (b : Bool). cond b 0 1) (other_test c f)
 
--- the log has room for a pair that is not 0
-pub room-left : (n k : ℕ) (c : ℤ) → (c ≡ pos 0 → ⊥) → n + filled_by c ≤ k → n < k
-room-left n k c f h = omega (arith, filled-other c f)
-
-pub stays-longer : (n k : ℕ) (T : List Entry) → Longer n n k T T
-stays-longer n k T = record { grows = omega arith; most = omega arith; rest = refl }
-
 -- a pair of equal qubits; c' is what the machine reads back of c
 pub was-equal : (o : ℤ) (l l' : List ℤ) (h h' r f ks : List ℕ) (ws : List ℤ) (n p q : ℕ) (c c' : ℤ) → c' ≡ c → (c ≡ pos 0 → ⊥) → p ≡ q
     → l' ≡ set l p (get_or l p (pos 0) +ℤ c') → h' ≡ set h p 1

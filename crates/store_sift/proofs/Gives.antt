@@ -28,17 +28,8 @@ use Rattle.store_sift.specs.Sifting.{model_by, free_by, MayEnter, Giving, Turn}
 
 -- ---- the tests
 
-pub value-is : (k : ℕ) (w : ℤ) → k ≡ 2 → w ≡ gated (eqb k 2) w
-value-is k w e = rw (eq-eqb k 2 e)
-
-pub value_none : (k : ℕ) (w : ℤ) → (k ≡ 2 → ⊥) → pos 0 ≡ gated (eqb k 2) w
-value_none k w n = rw (ne_eqb k 2 n)
-
 pub free-low : (f : List ℕ) (k : ℕ) → get_or f (low k) 0 ≡ 0 → eqb (get_or f (high k) 0) 0 ≡ free_by f k
 free-low f k e = rw (eq-eqb (get_or f (low k) 0) 0 e)
-
-pub not_free : (f : List ℕ) (k : ℕ) → (get_or f (low k) 0 ≡ 0 → ⊥) → false ≡ free_by f k
-not_free f k n = rw (ne_eqb (get_or f (low k) 0) 0 n)
 
 -- a product that goes through a local, of a weight that did
 pub read_back : {r w : ℤ} (b : Bool) → mag r < 2 ^ 63 → SFits w64 w → r ≡ gated b (to_z w64 (of_z w64 w)) → to_z w64 (of_z w64 r) ≡ gated b w

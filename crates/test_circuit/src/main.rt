@@ -2,6 +2,7 @@
 // A case is a line: a name and a colon; the lengths of the three tables; how many bytes stand past the records; then groups of nine
 // numbers, each a stretch of records: kind, byte 1, a, b, c, nid, how many, after how many records a rises by one (0: never), and by how much b rises each time.
 #![tactic(auto)]
+
 mod build;
 mod decimal;
 

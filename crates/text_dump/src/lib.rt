@@ -1,5 +1,6 @@
 // The model text, from the bytes of a circuit: `dump_model` builds, and prints what the build left.
 #![tactic(auto)]
+
 ghost use Rattle.std.specs.Prelude.{◌≡◌};
 ghost use Rattle.qubot_left.specs.Built.{lent};
 ghost use Rattle.text_left.specs.Dumped.{dumped};

@@ -1,5 +1,6 @@
 // The text of what a build left, into a lent buffer; or the build's refusal, or 17.
 #![tactic(auto)]
+
 ghost use mathlib.Core.List.{[], zip};
 ghost use Rattle.std.specs.Prelude.{◌≡◌, length, take};
 ghost use Rattle.circuit.specs.Meaning.{circuit_of};

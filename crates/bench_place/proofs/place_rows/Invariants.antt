@@ -5,7 +5,7 @@ use Rattle.bench_place.proofs.Rounds.{Growing, Lengths}
 use Rattle.bench_place.proofs.place_rows.Given as goal
 
 abbrev pub invariant-loop-i : goal.invariant-loop-i
-invariant-loop-i l = 
+invariant-loop-i l =
     (l.i ≤ l.n) × Lengths l.initial.linear l.initial.present l.initial.rows l.initial.keys l.initial.weights l.linear l.present l.rows l.keys l.weights × Growing (tables l.t.offset l.linear l.present l.rows [] l.keys l.weights l.t.count) l.i
 
 abbrev pub decreases-loop-i : goal.decreases-loop-i

@@ -1,8 +1,10 @@
 -- `store_ising::to_ising` meets its contract: two sums, the halves, and the pass over the pairs (`Turns`).
-use Rattle.std.proofs.Common.{sym, ap, ◌∙◌, subst, ℕ, arith, ◌+ℤ◌, take, w64, SFits, to_z-of_z}
+use Rattle.std.proofs.Common.{sym, ap, ◌∙◌, subst, ℕ, ◌≤◌, ◌^◌, arith, ◌+ℤ◌, nat_abs, length, take, w64, SFits, to_z-of_z}
+use Rattle.std.proofs.Math.Seq.{take-length}
+use Rattle.std.proofs.lemmas.Int.{ints}
 use Rattle.laws.specs.Half.{half-fits}
 use Rattle.energy.specs.Model.{Inside, half, quarter, sizes}
-use Rattle.energy.specs.Mass.{sizes-half}
+use Rattle.energy.specs.Mass.{sizes-half, sizes-sum}
 use Rattle.store_pairs.specs.Store.{zip}
 use Rattle.store_ising.proofs.Turns.{quarter-fits, weights-small, offset-fits, sum-fits, all-fits, offset-is, all-turned}
 use Rattle.store_ising.proofs.to_ising.Goals as goal
@@ -21,6 +23,14 @@ turn_pairs-requires c =
       inside = subst (λ (k : ℕ). Inside k (take c.args.t.count (zip c.args.keys.now c.args.weights.now))) (sym same) r.inside;
       small = omega (arith, r.small, sizes-half c.args.linear.now, ap sizes c.halve_all.ensures);
     }
+
+pub overflow_add-offset : goal.overflow_add-offset
+overflow_add-offset c =
+    let r = c.requires in
+    let l = c.args.linear.now in
+    let a-small : nat_abs c.sum_of-a.result ≤ 2 ^ 40 = omega (arith, ap nat_abs c.sum_of-a.ensures, sizes-sum (take (length l) l), ap sizes (take-length l), r.small) in
+    let b-small : nat_abs c.sum_of-b.result ≤ 2 ^ 40 = omega (arith, ap nat_abs c.sum_of-b.ensures, sizes-sum (take c.args.t.count c.args.weights.now), weights-small r) in
+    omega (arith, ints, r.small)
 
 pub returns : goal.returns
 returns c =

@@ -1,13 +1,18 @@
 -- `enter::enter_value` meets its contract (`Gives`). The two numbers of the sum go through locals.
-use Rattle.std.proofs.Common.{refl, ◌+ℤ◌, w64, SFits, to_z-of_z}
+use Rattle.std.proofs.Common.{refl, ap, arith, ◌≤◌, ◌+ℤ◌, nat_abs, w64, SFits, to_z-of_z}
+use Rattle.laws.specs.Abs.{abs-add, fits-abs}
+use Rattle.energy.specs.Model.{sizes}
+use Rattle.energy.specs.Mass.{abs-gated, sizes-at}
 use Rattle.store_sift.proofs.Gives.{offset-fits, enter-fits, entered}
 use Rattle.store_sift.proofs.enter.enter_value.Goals as goal
 
 pub overflow_add-offset : goal.overflow_add-offset
 overflow_add-offset c =
+    let old = c.args.t.offset in
     let clear = c.clear_linear-given in
     let gift-fits : SFits w64 clear.result = record { sfits = clear.type_inv } in
-    simp (to_z-of_z (offset-fits c.requires c.args.on), to_z-of_z gift-fits) (enter-fits c.requires c.args.on clear.ensures.value)
+    let gift-small : nat_abs clear.result ≤ sizes c.args.linear.now = omega (arith, ap nat_abs clear.ensures.value, abs-gated, sizes-at c.args.linear.now c.args.q.0) in
+    simp (to_z-of_z (offset-fits c.requires c.args.on), to_z-of_z gift-fits) (fits-abs w64 _ (omega (arith, abs-add old clear.result, gift-small, c.requires.small)))
 
 pub returns : goal.returns
 returns c =
