@@ -7,14 +7,14 @@ use Rattle.bench_place.proofs.build.Goals as goal
 pub place_rows-t-requires : goal.place_rows-t-requires
 place_rows-t-requires c =
     let z = c.zero_i64 in
-    let lens = c.requires.0 in
-    let room = c.requires.1 in
-    (z.auto.0 ∙ lens.0, lens.1, lens.2, room.1 ∙ sym room.0, omega (arith, room.0), omega arith, zeros-weigh (length c.args.linear.now) z.ensures)
+    let lens = c.requires.linear_len in
+    let room = c.requires.keys_len in
+    (z.auto.t ∙ lens.0, lens.1, lens.2, room.1 ∙ sym room.0, omega (arith, room.0), omega arith, zeros-weigh (length c.args.linear.now) z.ensures)
 
 pub settle-u-requires : goal.settle-u-requires
 settle-u-requires c =
     let k = c.place_rows-t.auto in
     let last = c.place_rows-t.new in
-    let lens = c.requires.1 in
-    let lk = k.1.1.1.0 ∙ lens.0 in
-    settling last.0 last.1.0 last.1.1.0 [] c.place_rows-t.result (k.1.1.1.1.0 ∙ lens.1 ∙ sym lk) (lens.2 ∙ sym lk) (lens.3 ∙ sym lk) (omega (arith, c.place_rows-t.ensures.0, lk)) (omega (arith, c.place_rows-t.ensures.1))
+    let lens = c.requires.keys_len in
+    let lk = k.keys ∙ lens.0 in
+    settling last.linear last.present last.rows [] c.place_rows-t.result (k.weights ∙ lens.1 ∙ sym lk) (lens.2 ∙ sym lk) (lens.3 ∙ sym lk) (omega (arith, c.place_rows-t.ensures.0, lk)) (omega (arith, c.place_rows-t.ensures.1))

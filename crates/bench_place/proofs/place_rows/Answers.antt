@@ -24,7 +24,7 @@ pub loop-i-preserved : goal.loop-i-preserved
 loop-i-preserved c =
     let kept = c.loop-i.invariant.1 in
     let k = c.place-t.auto in
-    (omega arith, record { linear = k.0 ∙ kept.linear; present = k.1.0 ∙ kept.present; rows = k.1.1.0 ∙ kept.rows; keys = k.1.1.1.0 ∙ kept.keys; weights = k.1.1.1.1.0 ∙ kept.weights }, grow-turn (slots_of c.wires_of-w.result) c.row-p.result _ _ c.loop-i.i c.loop-i.invariant.2 c.row-p.ensures (c.place-t.ensures []))
+    (omega arith, record { linear = k.linear ∙ kept.linear; present = k.present ∙ kept.present; rows = k.rows ∙ kept.rows; keys = k.keys ∙ kept.keys; weights = k.weights ∙ kept.weights }, grow-turn (slots_of c.wires_of-w.result) c.row-p.result _ _ c.loop-i.i c.loop-i.invariant.2 c.row-p.ensures (c.place-t.ensures []))
 
 pub shape_of-linear : goal.shape_of-linear
 shape_of-linear c = c.loop-i.invariant.1.linear

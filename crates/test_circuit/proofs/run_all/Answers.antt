@@ -5,7 +5,7 @@ pub loop-left-init : goal.loop-left-init
 loop-left-init c = refl
 
 pub loop-left-preserved-then-at-s : goal.loop-left-preserved-then-at-s
-loop-left-preserved-then-at-s c = c.run-at.auto.bytes ∙ c.loop-left.invariant
+loop-left-preserved-then-at-s c = c.run.auto.bytes ∙ c.loop-left.invariant
 
 pub loop-left-preserved : goal.loop-left-preserved
 loop-left-preserved c = c.loop-left.invariant

@@ -12,7 +12,7 @@ pub loop-i-init : goal.loop-i-init
 loop-i-init c = (omega arith, (λ k a l e. omega (arith, a, l)), (λ h. h))
 
 pub returns-then-s-i : goal.returns-then-s-i
-returns-then-s-i c = let inv = c.loop-i.invariant in ((inv.0, inv.1), ((λ h. c.if-s-i.true), inv.2))
+returns-then-s-i c = let inv = c.loop-i.invariant in record { lower_bound = (inv.0, inv.1); result_value = ((λ h. c.if-s-i.true), inv.2) }
 
 pub loop-i-preserved : goal.loop-i-preserved
 loop-i-preserved c =
@@ -20,4 +20,4 @@ loop-i-preserved c =
     (omega arith, more c.args.s.now c.args.at c.loop-i.i c.args.byte inv.1 c.if-s-i.false, (λ h. omega arith))
 
 pub returns : goal.returns
-returns c = let inv = c.loop-i.invariant in ((inv.0, inv.1), ((λ h. absurd (omega (arith, c.loop-i-test.false, h))), inv.2))
+returns c = let inv = c.loop-i.invariant in record { lower_bound = (inv.0, inv.1); result_value = ((λ h. absurd (omega (arith, c.loop-i-test.false, h))), inv.2) }
