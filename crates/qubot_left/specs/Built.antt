@@ -1,6 +1,6 @@
 -- What a build does, from the bytes of a circuit to the lent tables and the answer: 01's checks, refusals, tables and unused entries.
 -- Assumes nothing: these are definitions.
-use Rattle.std.specs.Prelude.{◌≡◌, cond, List, ◌++◌, ℕ, min, length, drop}
+use Rattle.std.specs.Prelude.{◌≡◌, List, ◌++◌, ℕ, min, length, drop}
 use Rattle.std.proofs.Common.{sym, ◌∙◌}
 use Rattle.units.specs.declared.Form.{Form}
 use Rattle.units.specs.Name.{gate, qubit}

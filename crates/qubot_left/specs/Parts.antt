@@ -1,6 +1,6 @@
 -- A build on tables that may be longer than the lengths of 7, and how the checks decide.
 -- Assumes nothing.
-use Rattle.std.specs.Prelude.{◌≡◌, refl, cond, List, ◌++◌, ℕ, ◌+◌, ◌*◌, ◌≤◌, length, take, drop}
+use Rattle.std.specs.Prelude.{◌≡◌, refl, List, ◌++◌, ℕ, ◌+◌, ◌*◌, ◌≤◌, length, take, drop}
 use Rattle.std.proofs.Common.{sym, ap₂, ◌∙◌, arith, length-take-le}
 use Rattle.std.proofs.Math.Path.{ap}
 use Rattle.units.specs.declared.Form.{Form}

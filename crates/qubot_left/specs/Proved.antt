@@ -1,7 +1,7 @@
 -- What a build that is not refused proves: demand 3, of the very tables that it left and of the answer that it gave.
 -- The circuit is read off the bytes; the names and the model are read off the tables and the answer, and off nothing else.
 -- Assumes nothing.
-use Rattle.std.specs.Prelude.{◌≡◌, refl, ◌↔◌, List, [], ◌∷◌, ◌++◌, map, ℕ, zero, suc, ◌+◌, ◌-◌, ◌<◌, ℤ, pos, length, get_or, take}
+use Rattle.std.specs.Prelude.{◌≡◌, refl, ◌↔◌, List, [], ◌∷◌, ◌++◌, map, ℕ, zero, suc, ◌<◌, ℤ, pos, length, get_or, take}
 use Rattle.std.proofs.Common.{sym, ap, ap₂, ◌∙◌, subst, append_assoc, arith}
 use Rattle.units.specs.declared.Form.{Form}
 use Rattle.units.specs.declared.Form.TheVariants.{Binary, Ising}
@@ -17,7 +17,7 @@ use Rattle.circuit.specs.Meaning.{circuit_of}
 use Rattle.circuit.specs.Accepted.{Sound}
 use Rattle.numbering.specs.State.{State, mk, names_of}
 use Rattle.numbering.specs.Numbered.{numbered, number, named_of}
-use Rattle.numbering.specs.Finished.{Finished as Named·finished, finished, numbering}
+use Rattle.numbering.specs.Finished.{Finished as Named·finished, numbering}
 use Rattle.store_pairs.specs.Store.{zip}
 use Rattle.model_fixes.specs.Order.{fixes_of}
 use Rattle.model.specs.Steps.{finished_of}

@@ -1,4 +1,4 @@
-use Rattle.std.proofs.Common.{◌-◌, arith}
+use Rattle.std.proofs.Common.{arith}
 use Rattle.bench_check.proofs.repeat.Goals as goal
 
 pub loop-round-init : goal.loop-round-init

@@ -1,4 +1,4 @@
-use Rattle.std.proofs.Common.{[], ◌≡◌, refl, sym, ap, ◌∙◌, ◌-◌, arith}
+use Rattle.std.proofs.Common.{[], ◌≡◌, refl, sym, ap, ◌∙◌, arith}
 use Rattle.penalty.specs.declared.Kind.TheVariants.{Full}
 use Rattle.penalty.specs.declared.Penalty.{Penalty}
 use Rattle.energy.specs.Mass.{few-row}

@@ -1,4 +1,4 @@
-use Rattle.std.proofs.Common.{◌-◌, refl, ◌∙◌, arith}
+use Rattle.std.proofs.Common.{refl, ◌∙◌, arith}
 use Rattle.test_circuit.proofs.build.fill.Goals as goal
 
 pub loop-i-init : goal.loop-i-init

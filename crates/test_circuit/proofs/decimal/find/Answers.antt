@@ -1,4 +1,4 @@
-use Rattle.std.proofs.Common.{◌≢◌, List, ℕ, ◌+◌, ◌-◌, ◌≤◌, ◌<◌, arith, get_or}
+use Rattle.std.proofs.Common.{◌≢◌, List, ℕ, ◌+◌, ◌≤◌, ◌<◌, arith, get_or}
 use mathlib.Core.Path.{subst⁻¹}
 use Rattle.laws.specs.Test.{by_eqb}
 use Rattle.test_circuit.proofs.decimal.find.Goals as goal

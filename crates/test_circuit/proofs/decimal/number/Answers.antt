@@ -1,4 +1,4 @@
-use Rattle.std.proofs.Common.{◌-◌, arith}
+use Rattle.std.proofs.Common.{arith}
 use Rattle.test_circuit.proofs.decimal.number.Goals as goal
 
 pub bounds-s-i : goal.bounds-s-i
