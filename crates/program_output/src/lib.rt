@@ -19,9 +19,9 @@ fn said_of(text: &str) -> &str {
 
 // A line on standard error: what failed, as the caller names it, a colon and what the system says of it.
 pub fn write_failure(rt: &HostRuntime, what: &[u8], error: Error) -> io::Result<()> {
+    rt.stderr().write_all(what)?;
     let text = format!(in rt.alloc(); "{error}")?;
     let said = said_of(text.as_str());
-    rt.stderr().write_all(what)?;
     eprintln!(rt; ": {said}")
 }
 
