@@ -94,11 +94,11 @@ def check_page(page, groups, needs):
 
 
 def body(path):
-    """The text of the function CRATE::MODULE::NAME, or CRATE::NAME in lib.rt or main.rt; None where there is none."""
+    """The text of the function or method CRATE::MODULE::NAME, or CRATE::NAME in lib.rt or main.rt; None where there is none."""
     crate, *module, name = path.split('::')
     for stem in module or ['lib', 'main']:
         source = 'crates/%s/src/%s.rt' % (crate, stem)
-        found = os.path.exists(source) and re.search(r'(?ms)^(?:pub )?fn %s\(.*?^\}' % name, without_comments(source))
+        found = os.path.exists(source) and re.search(r'(?ms)^(    )?(?:pub )?fn %s\(.*?^(?(1)    )\}' % name, without_comments(source))
         if found:
             return found.group(0)
     return None

@@ -4,7 +4,6 @@
 
 ghost use Rattle.std.specs.Prelude.{◌≤◌};
 
-use circuit::Checked;
 use circuit_check::check;
 use program_input::read_full;
 use std::io;
@@ -13,19 +12,13 @@ use std::io;
 fn accepted(c: &[u8], gates: usize) -> usize
     ensures { result ≤ 1 }
 {
-    let checked = check(c, gates, 3065, 10192);
-    match checked {
-        Checked::Accepted(_) => 1,
-        Checked::Refused(_) => 0,
-    }
+    usize::from(check(c, gates, 3065, 10192).is_ok())
 }
 
 fn repeat(c: &[u8]) -> usize {
-    let mut count: usize = 0;
-    let mut round: usize = 0;
-    while round < 1000 {
-        count += accepted(c, 1000 + round);
-        round += 1;
+    let mut count = 0;
+    for gates in 1000..2000 {
+        count += accepted(c, gates);
     }
     count
 }

@@ -5,7 +5,7 @@ use mathlib.Core.Path.{◌≡◌, ap}
 use Prim.Native.Nat.{ℕ, ◌+◌, ◌*◌, ◌≤◌}
 use native.Mathlib.Omega.{arith}
 use lib.IntN.{ℤ, pos}
-use lib.ListN.{length, replicate}
+use lib.ListN.{replicate}
 use Rattle.penalty.specs.declared.Kind.TheVariants.{Full}
 use Rattle.penalty.specs.declared.Penalty.{Penalty}
 use Rattle.penalty.specs.Rows.{Slot, row_of}
@@ -24,14 +24,6 @@ zeros-weigh n e = rw e (omega (arith, mass-empty n))
 pub record Growing (t : Tables) (i : ℕ) : Type 0 where
   pub count : t.count ≤ 10 * i
   pub size : mass (model_of t) ≤ 264 * i
-
--- the lengths stay
-pub record Lengths (l₀ : List ℤ) (h₀ r₀ ks₀ : List ℕ) (ws₀ : List ℤ) (l : List ℤ) (h r ks : List ℕ) (ws : List ℤ) : Type 0 where
-  pub linear : length l ≡ length l₀
-  pub present : length h ≡ length h₀
-  pub rows : length r ≡ length r₀
-  pub keys : length ks ≡ length ks₀
-  pub weights : length ws ≡ length ws₀
 
 pub grow-turn : (at : Slot → ℕ) (p : Penalty) (t u : Tables) (i : ℕ) → Growing t i → p ≡ row_of Full → u ≡ hold (logged at p (model_of t)) t → Growing u (i + 1)
 grow-turn at p t u i g e h =

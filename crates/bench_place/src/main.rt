@@ -13,15 +13,13 @@ use store::Totals;
 use store_place::Wires;
 use store_place::place::place;
 use store_settle::settle;
-use tables::zero_i64;
 use units::Qubit;
 
 // A name below 3,065.
 fn name(x: usize) -> Qubit
     ensures { result.0 < 3065 }
 {
-    let n = (x % 3065) as u16;
-    Qubit(n)
+    Qubit((x % 3065) as u16)
 }
 
 // The qubits of the row `i`.
@@ -29,19 +27,13 @@ fn wires_of(i: usize) -> Wires
     requires { i < 2000 }
     ensures { (s : Slot) → slots_of result s < 3065 }
 {
-    let x1 = name(i * 7);
-    let x2 = name(i * 11 + 1);
-    let x3 = name(i * 13 + 2);
-    let z = name(i * 3 + 4);
-    let a = name(i * 3 + 2);
-    let k = name(i * 3 + 3);
     Wires {
-        x1,
-        x2,
-        x3,
-        z,
-        a,
-        k,
+        x1: name(i * 7),
+        x2: name(i * 11 + 1),
+        x3: name(i * 13 + 2),
+        z: name(i * 3 + 4),
+        a: name(i * 3 + 2),
+        k: name(i * 3 + 3),
     }
 }
 
@@ -61,12 +53,10 @@ fn place_rows(
         offset: 0,
         count: 0,
     };
-    let mut i = 0;
-    while i < n {
+    for i in 0..n {
         let w = wires_of(i);
         let p = penalty::row(Kind::Full);
         t = place(linear, present, rows, keys, weights, t, w, p);
-        i += 1;
     }
     t
 }
@@ -84,7 +74,7 @@ fn build(
     requires linear_len { (length linear.old ≡ 3065) × (length present.old ≡ 3065) × (length rows.old ≡ 3065) }
     requires keys_len { (length keys.old ≡ 10190) × (length weights.old ≡ 10190) × (length sk.old ≡ 10190) × (length sw.old ≡ 10190) }
 {
-    zero_i64(linear);
+    linear.fill(0);
     let t = place_rows(linear, present, rows, keys, weights, 1019);
     let u = settle(keys, weights, sk, sw, t);
     u.count
@@ -104,10 +94,8 @@ fn repeat(
     requires keys_len { (length keys.old ≡ 10190) × (length weights.old ≡ 10190) × (length sk.old ≡ 10190) × (length sw.old ≡ 10190) }
 {
     let mut count = 0;
-    let mut round: usize = 0;
-    while round < 50 {
+    for _ in 0..50 {
         count = build(linear, present, rows, keys, weights, sk, sw);
-        round += 1;
     }
     count
 }

@@ -1,10 +1,11 @@
 -- Values into a table, one after another. Assumes nothing.
 use Prim.Native.Nat.{ℕ, suc, ◌+◌, ◌*◌, ◌/◌, ◌<◌, min}
-use mathlib.Core.List.{List, [], ◌∷◌, ◌++◌, append_assoc}
+use mathlib.Core.List.{List, [], ◌∷◌, ◌++◌, append_assoc, append-nil}
 use mathlib.Core.Path.{◌≡◌, refl, ap, sym, ◌∙◌}
 use native.Mathlib.Numerals.{add-one}
+use native.Mathlib.Omega.{arith}
 use lib.IntN.{ℤ, pos}
-use lib.ListN.{length, take, drop, set, replicate}
+use lib.ListN.{length, take, drop, set, replicate, drop_of_length-le}
 use lib.Seq.{drop-cons, set_at}
 use Rattle.cases.specs.Values.{value_at, values_of, values_into, given_of, length-values}
 
@@ -26,8 +27,9 @@ one_more s table now i z h e v =
     ap (λ (l : List ℤ). set l i z) e ∙ ap (set (values_of s i ++ drop i table) i) v ∙ more s table i h
     ∙ ap (λ (n : ℕ). values_of s n ++ drop n table) (sym (add-one i))
 
-pub done : (s : List ℕ) (table : List ℤ) (i n : ℕ) (now : List ℤ) → i ≡ n → now ≡ values_of s i ++ drop i table → now ≡ values_of s n ++ drop n table
-done s table i n now e p = p ∙ ap (λ (k : ℕ). values_of s k ++ drop k table) e
+pub all_filled : (s : List ℕ) (table : List ℤ) (i : ℕ) (now : List ℤ) → i ≡ length table → now ≡ values_of s i ++ drop i table → now ≡ values_of s (length table)
+all_filled s table i now e p =
+    p ∙ ap (λ (k : ℕ). values_of s k ++ drop k table) e ∙ ap (λ (l : List ℤ). values_of s (length table) ++ l) (drop_of_length-le table (omega arith)) ∙ append-nil _
 
 -- as many as there are
 pub into : (s : List ℕ) (n : ℕ) (table : List ℤ) (here count : ℕ) → here ≡ min (length s / 8) (length table) → count ≡ min n here

@@ -1,46 +1,25 @@
--- The values of the model's names, byte after byte. Assumes nothing.
-use Prim.Native.Nat.{ℕ, suc, ◌+◌, ◌≤◌, ◌<◌}
-use mathlib.Core.List.{List, [], ◌∷◌, ◌++◌, append_assoc, append-nil}
-use mathlib.Core.Path.{◌≡◌, refl, ap, sym, ◌∙◌}
-use native.Mathlib.Numerals.{add-one}
-use lib.ListN.{length, get_or, take, drop, drop_of_length-le}
-use lib.Seq.{drop-cons, take-suc}
-use borrow.Author.Tests.{le-leb, lt-leb}
+-- The values of the model's names stand before the first byte that is none. Assumes nothing.
+use Prim.Native.Nat.{ℕ, zero, suc, ◌≤◌}
+use mathlib.Core.Bool.{cond}
+use mathlib.Core.List.{List, [], ◌∷◌}
+use mathlib.Core.Path.{◌≡◌, refl, ap, ◌∙◌}
+use native.Mathlib.Omega.{arith}
+use lib.Dec.{leb}
+use lib.ListN.{length, take}
+use Rattle.std.proofs.Common.{length-take}
+use Rattle.std.specs.List.{take_while, prefix_len}
+use Rattle.std.proofs.lemmas.List.Sums.{take_while-cons}
 use Rattle.cases.specs.Lines.{named}
 
-nothing : named [] ≡ []
+are : (s : List ℕ) → take_while (λ (v : ℕ). leb v 2) s ≡ named s
 unfolding named
-nothing = refl
+are [] = refl
+are (v ∷ vs) = take_while-cons (λ (v : ℕ). leb v 2) v vs ∙ ap (λ (t : List ℕ). cond (leb v 2) (v ∷ t) []) (are vs)
 
--- what is passed, and what is left
-abbrev pub Passed : List ℕ → ℕ → Type 0
-Passed s i = take i s ++ named (drop i s) ≡ named s
+again : (s : List ℕ) (n : ℕ) → take (length (take n s)) s ≡ take n s
+again s zero = refl
+again [] (suc n) = refl
+again (x ∷ s) (suc n) = ap (λ (t : List ℕ). x ∷ t) (again s n)
 
-pub none_passed : (s : List ℕ) → Passed s 0
-none_passed s = refl
-
-keeps : (v : ℕ) (vs : List ℕ) → v ≤ 2 → named (v ∷ vs) ≡ v ∷ named vs
-unfolding named
-keeps v vs h = rw (le-leb v 2 h)
-
-ends : (v : ℕ) (vs : List ℕ) → 2 < v → named (v ∷ vs) ≡ []
-unfolding named
-ends v vs h = rw (lt-leb v 2 h)
-
-pub one_more : (s : List ℕ) (i : ℕ) → i < length s → get_or s i 0 ≤ 2 → Passed s i → Passed s (i + 1)
-one_more s i h l p =
-    ap (λ (n : ℕ). take n s ++ named (drop n s)) (add-one i)
-    ∙ ap (λ (t : List ℕ). t ++ named (drop (suc i) s)) (take-suc s i 0 h)
-    ∙ append_assoc (take i s) (get_or s i 0 ∷ []) (named (drop (suc i) s))
-    ∙ ap (λ (t : List ℕ). take i s ++ t) (sym (keeps (get_or s i 0) (drop (suc i) s) l) ∙ ap named (sym (drop-cons s i 0 h)))
-    ∙ p
-
-pub stops : (s : List ℕ) (i : ℕ) → i < length s → 2 < get_or s i 0 → Passed s i → take i s ≡ named s
-stops s i h l p =
-    sym (append-nil (take i s))
-    ∙ ap (λ (t : List ℕ). take i s ++ t) (sym (ends (get_or s i 0) (drop (suc i) s) l) ∙ ap named (sym (drop-cons s i 0 h)))
-    ∙ p
-
-pub all-passed : (s : List ℕ) (i : ℕ) → length s ≤ i → Passed s i → take i s ≡ named s
-all-passed s i h p =
-    sym (append-nil (take i s)) ∙ ap (λ (t : List ℕ). take i s ++ t) (sym nothing ∙ ap named (sym (drop_of_length-le s h))) ∙ p
+pub counted : (s : List ℕ) (n : ℕ) → n ≡ length (take_while (λ (v : ℕ). leb v 2) s) → (n ≤ length s) × (take n s ≡ named s)
+counted s n e = (simp e (simp length-take (omega arith)), ap (λ (k : ℕ). take k s) e ∙ again s (prefix_len (λ (v : ℕ). leb v 2) s) ∙ are s)

@@ -2,6 +2,9 @@
 // answers is a definition of specs/, for every byte string and every buffer.
 #![tactic(auto)]
 
+ghost use Rattle.std.specs.Prelude.{◌≡◌};
+ghost use Rattle.cases.specs.Head.{job_of};
+
 pub mod heads;
 pub mod lines;
 pub mod numbers;
@@ -19,6 +22,18 @@ pub enum Job {
     Run,
 }
 
+// By its byte in a head.
+impl From<u8> for Job {
+    ghost from_gives = { λ b j. j ≡ job_of b };
+
+    fn from(b: u8) -> Job {
+        match b {
+            1 => Job::Run,
+            _ => Job::Model,
+        }
+    }
+}
+
 // What follows a head: so many bytes of circuit, and so many values.
 #[derive(Clone, Copy)]
 pub struct Asked {
@@ -26,10 +41,4 @@ pub struct Asked {
     pub job: Job,
     pub values: u16,
     pub length: u32,
-}
-
-#[derive(Clone, Copy)]
-pub enum Head {
-    Case(Asked),
-    Malformed,
 }

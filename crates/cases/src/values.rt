@@ -1,5 +1,6 @@
 // The line of a run's values.
-ghost use Rattle.std.specs.Prelude.{◌≡◌, ◌+◌, ◌*◌, ◌^◌, ◌≤◌, ◌<◌, length, take};
+ghost use Rattle.std.specs.Prelude.{◌≡◌, ◌+◌, ◌*◌, ◌^◌, ◌≤◌, ◌<◌, leb, length};
+ghost use Rattle.std.specs.List.{take_while};
 ghost use Rattle.text.specs.Paste.{Printed};
 ghost use Rattle.text.specs.Text.{lines};
 ghost use Rattle.cases.specs.Lines.{value_text, values_line, named};
@@ -8,16 +9,9 @@ use text::write::{put, put_bytes};
 
 // How many values stand before the first byte that is none.
 fn names_in(values: &[u8]) -> usize
-    ensures { (result ≤ length values.now) × (take result values.now ≡ named values.now) }
+    ensures { result ≡ length (take_while (λ v. leb v 2) values.now) }
 {
-    let mut i = 0;
-    while i < values.len() {
-        if 2 < values[i] {
-            return i;
-        }
-        i += 1;
-    }
-    i
+    values.iter().take_while(|value| **value <= 2).count()
 }
 
 // A value and the space before it.
@@ -29,18 +23,15 @@ fn put_value(buf: &mut [u8], at: usize, value: u8) -> usize
     put(buf, next, 48 + value % 10)
 }
 
-// The first n values.
-fn put_each(buf: &mut [u8], at: usize, values: &[u8], n: usize) -> usize
-    requires { (n ≤ length values.now) × (at + 2 * n < 2 ^ 64) }
-    ensures printed { Printed (lines value_text (take n values.now)) buf.old at buf.new result }
-    ensures value { result ≡ at + 2 * n }
+// Values, one after another.
+fn put_each(buf: &mut [u8], at: usize, values: &[u8]) -> usize
+    requires { at + 2 * length values.now < 2 ^ 64 }
+    ensures printed { Printed (lines value_text values.now) buf.old at buf.new result }
+    ensures value { result ≡ at + 2 * length values.now }
 {
     let mut next = at;
-    let mut k = 0;
-    while k < n {
-        let v = values[k];
-        next = put_value(buf, next, v);
-        k += 1;
+    for value in values {
+        next = put_value(buf, next, *value);
     }
     next
 }
@@ -53,6 +44,6 @@ pub fn put_values(buf: &mut [u8], at: usize, values: &[u8]) -> usize
 {
     let n = names_in(values);
     let first = put_bytes(buf, at, b"values");
-    let end = put_each(buf, first, values, n);
+    let end = put_each(buf, first, &values[..n]);
     put(buf, end, b'\n')
 }

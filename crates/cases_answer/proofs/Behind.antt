@@ -1,12 +1,11 @@
 -- What stands behind a head: the circuit, and the values. Assumes nothing.
-use Prim.Native.Nat.{ℕ, zero, suc, ◌-◌, ◌≤◌, ◌<◌, min}
+use Prim.Native.Nat.{ℕ, zero, suc, ◌≤◌, ◌<◌, min}
 use native.Mathlib.Nat.{zero-min, suc-min-suc}
 use mathlib.Core.List.{List, [], ◌∷◌}
 use mathlib.Core.Path.{◌≡◌, sym, ap, ap₂, ◌∙◌}
-use native.Mathlib.Omega.{arith}
-use lib.ListN.{length, take, drop, length-drop}
+use lib.ListN.{length, take, drop}
 use borrow.Author.Tests.{lt-ltb, le-ltb}
-use lib.Seq.{take_all, take-nil, drop-nil}
+use lib.Seq.{take-nil, drop-nil}
 use Rattle.circuit.specs.declared.Refusal.TheVariants.{TooMany}
 use Rattle.report_lines.specs.Report.{refusal_line}
 use Rattle.cases.specs.declared.Job.{Job}
@@ -27,13 +26,12 @@ past (suc n) [] = drop-nil (min (suc n) 0) ∙ sym (drop-nil (suc n))
 past (suc n) (x ∷ l) = rw suc-min-suc (past n l)
 
 -- the bytes that the code takes for the circuit
-first : (n end : ℕ) (l : List ℕ) → end ≡ min n (length l) → take n l ≡ take end l
-first n end l e = sym (cut n l) ∙ ap (λ (k : ℕ). take k l) (sym e)
+first : (n end : ℕ) (l b : List ℕ) → end ≡ min n (length l) → b ≡ take end l → take n l ≡ b
+first n end l b e f = sym (f ∙ ap (λ (k : ℕ). take k l) e ∙ cut n l)
 
 -- and for the values
-next : (n end : ℕ) (l : List ℕ) → end ≡ min n (length l) → drop n l ≡ take (length l - end) (drop end l)
-next n end l e =
-    sym (past n l) ∙ ap (λ (k : ℕ). drop k l) (sym e) ∙ sym (take_all (length l - end) (drop end l) (omega (arith, length-drop end l)))
+next : (n end : ℕ) (l v : List ℕ) → end ≡ min n (length l) → v ≡ drop end l → drop n l ≡ v
+next n end l v e f = sym (f ∙ ap (λ (k : ℕ). drop k l) e ∙ past n l)
 
 module _ (asked : Asked) (rest : List ℕ) (room : ℕ) where
   pub too_long : limit < asked.length → answer_of asked rest room ≡ refusal_line TooMany
@@ -47,12 +45,11 @@ module _ (asked : Asked) (rest : List ℕ) (room : ℕ) where
       rw (le-ltb limit asked.length h)
       (ap (λ (x : Job). answer_by x (take asked.length rest) asked.form (given_of (drop asked.length rest) asked.values) room) j)
 
-  pub model-behind : (end : ℕ) → asked.length ≤ limit → asked.job ≡ Model → end ≡ min asked.length (length rest)
-      → answer_of asked rest room ≡ model_answer (take end rest) asked.form room
-  model-behind end h j e = by-job Model h j ∙ ap (λ (b : List ℕ). model_answer b asked.form room) (first asked.length end rest e)
+  module _ {end : ℕ} {b : List ℕ} (h : asked.length ≤ limit) (e : end ≡ min asked.length (length rest)) (is : b ≡ take end rest) where
+    pub model-behind : asked.job ≡ Model → answer_of asked rest room ≡ model_answer b asked.form room
+    model-behind j = by-job Model h j ∙ ap (λ (b : List ℕ). model_answer b asked.form room) (first asked.length end rest b e is)
 
-  pub run-behind : (end : ℕ) → asked.length ≤ limit → asked.job ≡ Run → end ≡ min asked.length (length rest)
-      → answer_of asked rest room ≡ run_answer (take end rest) asked.form (given_of (take (length rest - end) (drop end rest)) asked.values)
-  run-behind end h j e =
-      by-job Run h j
-      ∙ ap₂ (λ (b s : List ℕ). run_answer b asked.form (given_of s asked.values)) (first asked.length end rest e) (next asked.length end rest e)
+    pub run-behind : (v : List ℕ) → v ≡ drop end rest → asked.job ≡ Run → answer_of asked rest room ≡ run_answer b asked.form (given_of v asked.values)
+    run-behind v f j =
+        by-job Run h j
+        ∙ ap₂ (λ (b s : List ℕ). run_answer b asked.form (given_of s asked.values)) (first asked.length end rest b e is) (next asked.length end rest v e f)

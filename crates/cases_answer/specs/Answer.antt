@@ -1,16 +1,12 @@
 -- The answer of a case: "what the model or run program prints without the 4,096 byte limit, after a run also `values` and the value bytes of the model's names
 -- separated by spaces".
 -- Assumes nothing: these are definitions.
-use Rattle.std.specs.Prelude.{ℕ, ◌-◌, List, [], ◌++◌, ℤ, ltb, length, take, drop, replicate}
+use Rattle.std.specs.Prelude.{ℕ, ◌-◌, List, [], ◌++◌, ℤ, ltb, length, take, drop, replicate, Bool, Err, Ok, Result}
 use Rattle.units.specs.declared.Form.{Form}
 use Rattle.circuit.specs.File.{either}
 use Rattle.circuit.specs.declared.Refusal.TheVariants.{TooMany}
-use Rattle.run_outcome.specs.declared.Outcome.{Outcome}
-use Rattle.run_outcome.specs.declared.Outcome.TheVariants.{Ran, Refused}
 use Rattle.run_meaning.specs.Ran.{Done}
 use Rattle.report_lines.specs.Report.{refusal_line, run_lines}
-use Rattle.text_left.specs.declared.Dumped.{Dumped}
-use Rattle.text_left.specs.declared.Dumped.TheVariants.{Text, Refused as NoText}
 use Rattle.text_left.specs.Dumped.{dumped}
 use Rattle.qubot_left.specs.Fresh.{fresh}
 use Rattle.run_left.specs.Evaluated.{evaluated}
@@ -19,20 +15,22 @@ use Rattle.cases.specs.declared.Job.TheVariants.{Model, Run}
 use Rattle.cases.specs.declared.Asked.{Asked}
 use Rattle.cases.specs.Values.{given_of}
 use Rattle.cases.specs.Lines.{case_text, values_line, named}
+use Rattle.units.specs.declared.Energy.{Energy}
+use Rattle.circuit.specs.declared.Refusal.{Refusal}
 
 -- what the buffer and the answer of a model come to: the text that stands at the front, or the refusal's line
-abbrev pub model_says : List ℕ × Dumped → List ℕ
-model_says (out, Text n) = take n out
-model_says (out, NoText r) = refusal_line r
+abbrev pub model_says : List ℕ × Result ℕ Refusal → List ℕ
+model_says (out, Ok n) = take n out
+model_says (out, Err r) = refusal_line r
 
 -- the model's text, or its refusal's line; 17 where there is less room than the text is long. What the buffer holds before does not matter.
 unfoldable pub model_answer : List ℕ → Form → ℕ → List ℕ
 model_answer b form room = model_says (dumped b form fresh (replicate room 0)).1
 
 -- "after a run also `values` and the value bytes of the model's names": none after a refusal
-abbrev pub values_after : Outcome → List ℕ → List ℕ
-values_after (Ran e hit) values = values_line (named values)
-values_after (Refused r) values = []
+abbrev pub values_after : Result (Energy × Bool) Refusal → List ℕ → List ℕ
+values_after (Ok (e, hit)) values = values_line (named values)
+values_after (Err r) values = []
 
 abbrev pub run_says : Done → List ℕ
 run_says d = run_lines d.run ++ values_after d.run.outcome d.values

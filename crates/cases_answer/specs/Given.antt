@@ -1,6 +1,6 @@
 -- "8 bytes for each value": a run is given its first 65 values at most, and that is as if it were given all of them, since no circuit has more than 64 inputs.
 -- Assumes nothing.
-use Rattle.std.specs.Prelude.{Bool, List, ◌++◌, ◌≡◌, refl, ℕ, ◌*◌, ◌≤◌, ◌<◌, min, ltb, ℤ, pos, length, replicate}
+use Rattle.std.specs.Prelude.{Bool, List, ◌++◌, ◌≡◌, refl, ℕ, ◌*◌, ◌≤◌, ◌<◌, min, ltb, ℤ, pos, length, replicate, Err, Ok, Result}
 use Rattle.std.proofs.Math.Path.{sym, ap}
 use Rattle.std.proofs.Common.{◌∙◌, arith, ne_eqb}
 use Rattle.std.proofs.Math.ListN.{take, drop}
@@ -10,13 +10,13 @@ use Rattle.laws.specs.Test.{by-ltb}
 use Rattle.units.specs.declared.Form.{Form}
 use Rattle.circuit.specs.Accepted.{well-formed}
 use Rattle.circuit.specs.declared.Refusal.TheVariants.{FewValues, OtherCount}
-use Rattle.qubot_left.specs.declared.Built.{Built as Answer}
-use Rattle.qubot_left.specs.declared.Built.TheVariants.{Done as Finishes, Refused as Rejected}
 use Rattle.qubot_left.specs.Built.{Tables, built}
 use Rattle.run_meaning.specs.Ran.{Built, Done, done, refusal, choose, unknowns, within, beside, ran}
 use Rattle.run_left.specs.Evaluated.{built_in, evaluated_by, evaluated}
 use Rattle.run_left.specs.Left.{left_by}
 use Rattle.cases.specs.Values.{values_of, count_in, values_into, given_of, length-values}
+use Rattle.qubot_left.specs.declared.Finished.{Finished}
+use Rattle.circuit.specs.declared.Refusal.{Refusal}
 
 -- ---- the values that are given
 
@@ -56,11 +56,11 @@ given-all b form t s count values whole =
     more : 65 < count → evaluated_by b (values_of s (min count 65)) values (built b form t) ≡ evaluated_by b (values_of s count) values (built b form t)
     more h = go (built b form t) refl
       where
-        go : (y : Tables × Answer) → y ≡ built b form t → evaluated_by b (values_of s (min count 65)) values y ≡ evaluated_by b (values_of s count) values y
-        go (u, Rejected r) e = refl
-        go (u, Finishes f) e =
+        go : (y : Tables × Result Finished Refusal) → y ≡ built b form t → evaluated_by b (values_of s (min count 65)) values y ≡ evaluated_by b (values_of s count) values y
+        go (u, Err r) e = refl
+        go (u, Ok f) e =
             ap (λ (d : Done). (u, d))
-            (same-run (built_in b u f) (well-formed b (left_by b form t u (Finishes f) e f refl).sound).few_inputs (values_of s (min count 65)) (values_of s count)
+            (same-run (built_in b u f) (well-formed b (left_by b form t u (Ok f) e f refl).sound).few_inputs (values_of s (min count 65)) (values_of s count)
             (omega (arith, length-values s (min count 65)))
             (omega (arith, length-values s count))
             values)

@@ -1,6 +1,6 @@
 -- "the value bytes of the model's names": the bytes that a run's answer lists are as many as the build gave names. No byte of a name is over 2, and the next is 3.
 -- Assumes nothing.
-use Rattle.std.specs.Prelude.{Bool, true, false, List, [], ◌∷◌, ◌++◌, ◌≡◌, refl, ℕ, zero, suc, ◌≤◌, eqb, ltb, ℤ, length, take, drop, set, replicate}
+use Rattle.std.specs.Prelude.{Bool, true, false, List, [], ◌∷◌, ◌++◌, ◌≡◌, refl, ℕ, zero, suc, ◌≤◌, eqb, ltb, ℤ, length, take, drop, set, replicate, Err, Ok, Result}
 use Rattle.std.proofs.Common.{append-nil, sym, ap, ◌∙◌, arith, le-leb}
 use Rattle.std.proofs.Math.Path.{subst⁻¹}
 use Rattle.std.proofs.Math.Seq.{take-append_seam}
@@ -8,9 +8,6 @@ use Rattle.units.specs.declared.Form.{Form}
 use Rattle.units.specs.declared.Energy.{Energy}
 use Rattle.circuit.specs.declared.Refusal.{Refusal}
 use Rattle.circuit.specs.declared.Refusal.TheVariants.{FewValues, OtherCount}
-use Rattle.run_outcome.specs.declared.Outcome.TheVariants.{Ran, Refused}
-use Rattle.qubot_left.specs.declared.Built.{Built as Answer}
-use Rattle.qubot_left.specs.declared.Built.TheVariants.{Done as Finishes}
 use Rattle.qubot_left.specs.declared.Finished.{Finished}
 use Rattle.qubot_left.specs.Built.{Tables, built}
 use Rattle.run_meaning.specs.Need.{Got, table, stopped, bit}
@@ -54,18 +51,18 @@ none_named (suc n) (suc m) = none_named n m
 
 -- ---- a run that was made
 
-never : {r : Refusal} {e : Energy} {hit : Bool} → Refused r ≡ Ran e hit → ⊥
+never : {r : Refusal} {e : Energy} {hit : Bool} → ◌≡◌ {A = Result (Energy × Bool) Refusal} (Err r) (Ok (e, hit)) → ⊥
 never {r} {e} {hit} k = let z : ◌≡◌ {A = ℕ} 0 1 = cc in omega arith
 
 -- the values that were listed are the first n
 abbrev Listed : ℕ → Done → Type 0
 Listed n d = named d.values ≡ take n d.values
 
-ran-listed : (u : Built) (vs : List ℤ) (m : ℕ) (e : Energy) (hit : Bool) → (ran u vs (replicate m 3)).run.outcome ≡ Ran e hit → Listed u.state.next (ran u vs (replicate m 3))
+ran-listed : (u : Built) (vs : List ℤ) (m : ℕ) (e : Energy) (hit : Bool) → (ran u vs (replicate m 3)).run.outcome ≡ Ok (e, hit) → Listed u.state.next (ran u vs (replicate m 3))
 unfolding ran within
 ran-listed u vs m e hit k = by-room (ltb (length (replicate m 3)) u.state.next) k
   where
-    by-got : (g : Got) → valued u vs (unknowns u) ≡ g → (finished u g).run.outcome ≡ Ran e hit → Listed u.state.next (beside (drop u.state.next (replicate m 3)) (finished u g))
+    by-got : (g : Got) → valued u vs (unknowns u) ≡ g → (finished u g).run.outcome ≡ Ok (e, hit) → Listed u.state.next (beside (drop u.state.next (replicate m 3)) (finished u g))
     by-got (table t) v k =
         named-values t (drop u.state.next (replicate m 3)) (valued-keeps Values stays u vs t (unknown-values u.state.next) v)
         ∙ ap (λ (l : List ℕ). t ++ l) (none_named u.state.next m)
@@ -74,23 +71,23 @@ ran-listed u vs m e hit k = by-room (ltb (length (replicate m 3)) u.state.next) 
         ∙ ap (λ (n : ℕ). take n (t ++ drop u.state.next (replicate m 3))) (valued-length u vs t v)
     by-got (stopped x) v k = absurd (never k)
 
-    by_count : (b : Bool) → (choose b (λ t. finished u (valued u vs t)) (done (refusal OtherCount)) (unknowns u)).run.outcome ≡ Ran e hit
+    by_count : (b : Bool) → (choose b (λ t. finished u (valued u vs t)) (done (refusal OtherCount)) (unknowns u)).run.outcome ≡ Ok (e, hit)
         → Listed u.state.next (beside (drop u.state.next (replicate m 3)) (choose b (λ t. finished u (valued u vs t)) (done (refusal OtherCount)) (unknowns u)))
     by_count true k = by-got (valued u vs (unknowns u)) refl k
     by_count false k = absurd (never k)
 
-    by-room : (b : Bool) → (choose b (done (refusal FewValues)) (λ t. beside (drop u.state.next t) (within u vs)) (replicate m 3)).run.outcome ≡ Ran e hit
+    by-room : (b : Bool) → (choose b (done (refusal FewValues)) (λ t. beside (drop u.state.next t) (within u vs)) (replicate m 3)).run.outcome ≡ Ok (e, hit)
         → Listed u.state.next (choose b (done (refusal FewValues)) (λ t. beside (drop u.state.next t) (within u vs)) (replicate m 3))
     by-room true k = absurd (never k)
     by-room false k = by_count (eqb (length vs) (length u.circuit.inputs)) k
 
 -- Theorem: after a run that was made, the values in the answer are those of the names that the build gave. (`run-proved` of `run_left` has that there was a build.)
-pub names-listed : (b : List ℕ) (form : Form) (u : Tables) (f : Finished) (vs : List ℤ) (e : Energy) (hit : Bool) → built b form fresh ≡ (u, Finishes f)
-    → (evaluated b form fresh vs (replicate 3065 3)).1.run.outcome ≡ Ran e hit
+pub names-listed : (b : List ℕ) (form : Form) (u : Tables) (f : Finished) (vs : List ℤ) (e : Energy) (hit : Bool) → built b form fresh ≡ (u, Ok f)
+    → (evaluated b form fresh vs (replicate 3065 3)).1.run.outcome ≡ Ok (e, hit)
     → named (evaluated b form fresh vs (replicate 3065 3)).1.values ≡ take f.names (evaluated b form fresh vs (replicate 3065 3)).1.values
 unfolding evaluated
 names-listed b form u f vs e hit bu =
     subst⁻¹
-    (λ (y : Tables × Answer). (evaluated_by b vs (replicate 3065 3) y).1.run.outcome ≡ Ran e hit → Listed f.names (evaluated_by b vs (replicate 3065 3) y).1)
+    (λ (y : Tables × Result Finished Refusal). (evaluated_by b vs (replicate 3065 3) y).1.run.outcome ≡ Ok (e, hit) → Listed f.names (evaluated_by b vs (replicate 3065 3) y).1)
     bu
     (ran-listed (built_in b u f) vs 3065 e hit)

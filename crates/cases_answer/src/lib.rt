@@ -14,20 +14,18 @@ use cases::{Asked, Job, LIMIT};
 use circuit::Refusal;
 use report::{print_refusal, print_run};
 use run::fresh::run_fresh;
-use run_outcome::{Outcome, Run};
+use run_outcome::Run;
 use text_dump::fresh::dump_fresh;
-use text_left::Dumped;
-use units::{Form, lesser};
+use units::Form;
 
 // The text of a circuit's model, or its refusal's line. Answers how long it is.
 pub fn put_model(circuit: &[u8], form: Form, buf: &mut [u8]) -> usize
     ensures printed { Printed (model_answer circuit.now form (length buf.old)) buf.old 0 buf.new result }
     ensures upper_bound { result ≤ max 32 (length buf.new) }
 {
-    let dumped = dump_fresh(circuit, form, buf);
-    match dumped {
-        Dumped::Refused(r) => print_refusal(r, buf),
-        Dumped::Text(n) => n,
+    match dump_fresh(circuit, form, buf) {
+        Err(r) => print_refusal(r, buf),
+        Ok(n) => n,
     }
 }
 
@@ -40,8 +38,8 @@ fn put_run(r: Run, values: &[u8], buf: &mut [u8]) -> usize
     let outcome = r.outcome;
     let end = print_run(r, buf);
     match outcome {
-        Outcome::Ran(_, _) => put_values(buf, end, values),
-        Outcome::Refused(_) => end,
+        Ok(_) => put_values(buf, end, values),
+        Err(_) => end,
     }
 }
 
@@ -62,7 +60,7 @@ fn put_given(circuit: &[u8], form: Form, given: &[u8], count: usize, buf: &mut [
     ensures upper_bound { result ≤ 7811 }
 {
     let mut inputs = [0i64; 65];
-    let n = lesser(count, 65);
+    let n = count.min(65);
     read_values(given, n, &mut inputs);
     put_ran(circuit, form, &inputs[..n], buf)
 }
@@ -72,17 +70,14 @@ pub fn put_answer(asked: Asked, rest: &[u8], buf: &mut [u8]) -> usize
     ensures printed { Printed (answer_of asked rest.now (length buf.old)) buf.old 0 buf.new result }
     ensures upper_bound { result ≤ max 7811 (length buf.new) }
 {
-    let form = asked.form;
-    let job = asked.job;
-    let count = asked.values as usize;
     let length = asked.length as usize;
     if LIMIT < length {
         return print_refusal(Refusal::TooMany, buf);
     }
-    let end = lesser(length, rest.len());
-    match job {
-        Job::Model => put_model(&rest[..end], form, buf),
-        Job::Run => put_given(&rest[..end], form, &rest[end..], count, buf),
+    let (circuit, given) = rest.split_at(length.min(rest.len()));
+    match asked.job {
+        Job::Model => put_model(circuit, asked.form, buf),
+        Job::Run => put_given(circuit, asked.form, given, asked.values as usize, buf),
     }
 }
 
@@ -92,7 +87,7 @@ pub fn put_whole(number: u64, asked: Asked, rest: &[u8], buf: &mut [u8]) -> usiz
     ensures upper_bound { result ≤ max 7837 (length buf.new) }
 {
     let line = put_case(number, buf);
-    let from = lesser(line, buf.len());
+    let from = line.min(buf.len());
     let n = put_answer(asked, rest, &mut buf[from..]);
     line + n
 }

@@ -1,17 +1,13 @@
 -- What the answer `Accepted` of the checks says: the file is sound, and the tables have room.
 -- Assumes nothing.
 use Prim.Native.Nat.{ℕ, ◌+◌, ◌*◌, ◌%◌}
-use Rattle.std.specs.Prelude.{◌≡◌, Bool, true, false, not, ◌||◌, List, ltb, eqb, length}
+use Rattle.std.specs.Prelude.{◌≡◌, Bool, true, false, not, ◌||◌, List, ltb, eqb, length, None, Ok, Option, Result, Some}
 use Rattle.std.proofs.Math.Path.{refl}
 use Rattle.std.proofs.Common.{sym, arith, ltb-false}
 use Rattle.std.proofs.lemmas.Bool.{eqb-false}
-use Rattle.circuit.specs.declared.Found.{Found}
-use Rattle.circuit.specs.declared.Found.TheVariants.{At, Nowhere}
 use Rattle.circuit.specs.declared.Counts.{Counts}
 use Rattle.circuit.specs.declared.Record.{Record}
 use Rattle.circuit.specs.declared.Refusal.{Refusal}
-use Rattle.circuit.specs.declared.Checked.{Checked}
-use Rattle.circuit.specs.declared.Checked.TheVariants.{Accepted}
 use Rattle.circuit.specs.Form.{first_broken}
 use Rattle.circuit.specs.Passing.{neither}
 use Rattle.circuit.specs.Earlier.{first_late}
@@ -23,28 +19,28 @@ use Rattle.circuit.specs.Accepted.{Accepts}
 
 -- ---- what the answer `Accepted` says
 
-passed : (b : Bool) (r : Refusal) (x : Checked) (n : Counts) → refuse b r x ≡ Accepted n → (b ≡ false) × (x ≡ Accepted n)
+passed : (b : Bool) (r : Refusal) (x : Result Counts Refusal) (n : Counts) → refuse b r x ≡ Ok n → (b ≡ false) × (x ≡ Ok n)
 passed true r x n e = let z : ◌≡◌ {A = ℕ} 0 1 = cc in absurd (omega arith)
 passed false r x n e = (refl, e)
 
-passed-at-all : (f : Found) (r : Record → Refusal) (x : Checked) (n : Counts) → refuse_at f r x ≡ Accepted n → (f ≡ Nowhere) × (x ≡ Accepted n)
-passed-at-all (At m) r x n e = let z : ◌≡◌ {A = ℕ} 0 1 = cc in absurd (omega arith)
-passed-at-all Nowhere r x n e = (refl, e)
+passed-at-all : (f : Option ℕ) (r : Record → Refusal) (x : Result Counts Refusal) (n : Counts) → refuse_at f r x ≡ Ok n → (f ≡ None) × (x ≡ Ok n)
+passed-at-all (Some m) r x n e = let z : ◌≡◌ {A = ℕ} 0 1 = cc in absurd (omega arith)
+passed-at-all None r x n e = (refl, e)
 
-taken_out : (k n : Counts) → Accepted k ≡ Accepted n → k ≡ n
+taken_out : (k n : Counts) → ◌≡◌ {A = Result Counts Refusal} (Ok k) (Ok n) → k ≡ n
 taken_out k n e = cc
 
 module _ (c : List ℕ) (gates qubits pairs : ℕ) (n : Counts) where
   -- 6 and 7
-  roomed-accepts : (k : Counts) → roomed k gates qubits pairs ≡ Accepted n → (eqb k.bad_states 0 ≡ false) × (no_room k gates qubits pairs ≡ false) × (k ≡ n)
+  roomed-accepts : (k : Counts) → roomed k gates qubits pairs ≡ Ok n → (eqb k.bad_states 0 ≡ false) × (no_room k gates qubits pairs ≡ false) × (k ≡ n)
   unfolding roomed
   roomed-accepts k e =
-      let t6 = passed (eqb k.bad_states 0) NoBadState (refuse (no_room k gates qubits pairs) Room (Accepted k)) n e in
-      let t7 = passed (no_room k gates qubits pairs) Room (Accepted k) n t6.1 in
+      let t6 = passed (eqb k.bad_states 0) NoBadState (refuse (no_room k gates qubits pairs) Room (Ok k)) n e in
+      let t7 = passed (no_room k gates qubits pairs) Room (Ok k) n t6.1 in
       (t6.0, t7.0, taken_out k n t7.1)
 
   -- 4 and 5
-  named-accepts : named c gates qubits pairs ≡ Accepted n → (first_late c ≡ Nowhere) × (first_wrong c ≡ Nowhere) × (roomed (counts_of c) gates qubits pairs ≡ Accepted n)
+  named-accepts : named c gates qubits pairs ≡ Ok n → (first_late c ≡ None) × (first_wrong c ≡ None) × (roomed (counts_of c) gates qubits pairs ≡ Ok n)
   unfolding named
   named-accepts e =
       let t4 = passed-at-all (first_late c) NotEarlier (refuse_at (first_wrong c) Partner (roomed (counts_of c) gates qubits pairs)) n e in
@@ -52,7 +48,7 @@ module _ (c : List ℕ) (gates qubits pairs : ℕ) (n : Counts) where
       (t4.0, t5.0, t5.1)
 
   -- 1 to 3
-  checked-accepts : checked c gates qubits pairs ≡ Accepted n → (too_many (counts_of c) ≡ false) × (first_broken c ≡ Nowhere) × (named c gates qubits pairs ≡ Accepted n)
+  checked-accepts : checked c gates qubits pairs ≡ Ok n → (too_many (counts_of c) ≡ false) × (first_broken c ≡ None) × (named c gates qubits pairs ≡ Ok n)
   unfolding checked
   checked-accepts e =
       let t1 = passed (not (eqb (length c % 16) 0)) Length (refuse (too_many (counts_of c)) TooMany (refuse_at (first_broken c) Form (named c gates qubits pairs))) n e in
@@ -61,7 +57,7 @@ module _ (c : List ℕ) (gates qubits pairs : ℕ) (n : Counts) where
       (t2.0, t3.0, t3.1)
 
   -- Where `checked` accepts, the file is sound and the tables have room.
-  pub accepts : checked c gates qubits pairs ≡ Accepted n → Accepts c gates qubits pairs n
+  pub accepts : checked c gates qubits pairs ≡ Ok n → Accepts c gates qubits pairs n
   accepts e =
       let t3 = checked-accepts e in
       let t5 = named-accepts t3.2 in

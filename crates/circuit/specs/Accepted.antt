@@ -2,7 +2,7 @@
 -- The theorems that an edit of a definition breaks are in proofs/Accepted.antt.
 -- Assumes nothing.
 use Prim.Native.Nat.{ℕ, zero, suc, ◌+◌, ◌*◌, ◌≤◌, ◌<◌}
-use Rattle.std.specs.Prelude.{◌≡◌, Bool, true, false, ◌&&◌, ◌||◌, List, [], ◌∷◌, ◌++◌, map, leb, eqb, length, get_or}
+use Rattle.std.specs.Prelude.{◌≡◌, Bool, true, false, ◌&&◌, ◌||◌, List, [], ◌∷◌, ◌++◌, map, leb, eqb, length, get_or, None}
 use Rattle.std.proofs.Math.Path.{refl, subst}
 use Rattle.std.proofs.Common.{sym, ap, ◌∙◌, arith, zero-add, leb-true, leb-false, eqb-true, le-leb}
 use Rattle.std.proofs.Math.Decide.{dec_le}
@@ -10,7 +10,6 @@ use Rattle.std.proofs.lemmas.Bool.{not-false}
 use Rattle.std.proofs.Math.ListN.{length-map, get_or-eq_default}
 use Rattle.energy.specs.Circuit.{Gate, Bad, Constraint, Input, Circuit, Node, node, nodes_of, Before, AllBelow, IsAdder}
 use Rattle.energy.specs.Circuit.{ConstFalse, ConstTrue, InputBit, Not, And, Nand, Or, Matriarch1, CarryHalfAdder, CarryFullAdder, ResultHalfAdder, ResultFullAdder, Quotient, Remainder}
-use Rattle.circuit.specs.declared.Found.TheVariants.{Nowhere}
 use Rattle.circuit.specs.declared.Counts.{Counts}
 use Rattle.circuit.specs.File.{records, kind_byte, field, kind_of, kind_at, those, is_kind, places_of, count_of, is_bit_of, bits_of}
 use Rattle.circuit.specs.Search.{found_nowhere}
@@ -29,7 +28,7 @@ use Rattle.circuit.specs.Check.{counts_of}
 -- A file that passed all checks but the last, 7.
 pub record Sound (c : List ℕ) : Type 0 where
   pub timely : Timely c
-  pub partnered : first_wrong c ≡ Nowhere
+  pub partnered : first_wrong c ≡ None
   pub some_bad : 0 < count_of c 21 21
 
 -- ---- the gates of the circuit

@@ -1,14 +1,10 @@
 -- The checks 1 to 7: "Build checks 1 to 9 run in number order, each over the whole input; the place is the first in file order; places count from 0."
 -- Assumes nothing.
-use Rattle.std.specs.Prelude.{ℕ, ◌+◌, ◌*◌, ◌%◌, Bool, true, false, not, ◌||◌, List, ltb, eqb, length}
-use Rattle.circuit.specs.declared.Found.{Found}
-use Rattle.circuit.specs.declared.Found.TheVariants.{At, Nowhere}
+use Rattle.std.specs.Prelude.{ℕ, ◌+◌, ◌*◌, ◌%◌, Bool, true, false, not, ◌||◌, List, ltb, eqb, length, Err, None, Ok, Option, Result, Some}
 use Rattle.circuit.specs.declared.Counts.{Counts}
 use Rattle.circuit.specs.declared.Record.{Record}
 use Rattle.circuit.specs.declared.Refusal.{Refusal}
 use Rattle.circuit.specs.declared.Refusal.TheVariants.{Length, TooMany, Form, NotEarlier, Partner, NoBadState, Room}
-use Rattle.circuit.specs.declared.Checked.{Checked}
-use Rattle.circuit.specs.declared.Checked.TheVariants.{Accepted, Refused}
 use Rattle.circuit.specs.File.{records, count_of}
 use Rattle.circuit.specs.Meaning.{numbers_to, how_many}
 use Rattle.circuit.specs.Refusals.{place}
@@ -40,31 +36,31 @@ no_room k gates qubits pairs =
     ltb gates k.gates || ltb qubits (3 * k.gates + k.bad_states + 1) || ltb pairs (10 * k.gates + 3 * k.bad_states)
 
 -- refused, or what the later checks answer
-abbrev pub refuse : Bool → Refusal → Checked → Checked
-refuse true r next = Refused r
+abbrev pub refuse : Bool → Refusal → Result Counts Refusal → Result Counts Refusal
+refuse true r next = Err r
 refuse false r next = next
 
 -- the same where the place is a record
-abbrev pub refuse_at : Found → (Record → Refusal) → Checked → Checked
-refuse_at (At n) r next = Refused (r (place n))
-refuse_at Nowhere r next = next
+abbrev pub refuse_at : Option ℕ → (Record → Refusal) → Result Counts Refusal → Result Counts Refusal
+refuse_at (Some n) r next = Err (r (place n))
+refuse_at None r next = next
 
 -- 6 and 7: "there is no bad state", and no room
-unfoldable pub roomed : Counts → ℕ → ℕ → ℕ → Checked
+unfoldable pub roomed : Counts → ℕ → ℕ → ℕ → Result Counts Refusal
 roomed k gates qubits pairs =
     refuse (eqb k.bad_states 0) NoBadState
     (refuse (no_room k gates qubits pairs) Room
-    (Accepted k))
+    (Ok k))
 
 -- 4 to 7
-unfoldable pub named : List ℕ → ℕ → ℕ → ℕ → Checked
+unfoldable pub named : List ℕ → ℕ → ℕ → ℕ → Result Counts Refusal
 named c gates qubits pairs =
     refuse_at (first_late c) NotEarlier
     (refuse_at (first_wrong c) Partner
     (roomed (counts_of c) gates qubits pairs))
 
 -- All seven, of any bytes and any lengths of the tables.
-unfoldable pub checked : List ℕ → ℕ → ℕ → ℕ → Checked
+unfoldable pub checked : List ℕ → ℕ → ℕ → ℕ → Result Counts Refusal
 checked c gates qubits pairs =
     refuse (not (eqb (length c % 16) 0)) Length
     (refuse (too_many (counts_of c)) TooMany

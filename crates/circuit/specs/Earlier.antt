@@ -1,8 +1,7 @@
 -- "4: a gate names an operand or adder not earlier than itself, or a division's list holds such a gate (place: the division); or kinds 20 to 23 name no gate."
 -- Gates come first (check 3), so record n is gate n.
 -- Assumes nothing.
-use Rattle.std.specs.Prelude.{ℕ, Bool, false, ◌&&◌, ◌||◌, List, [], ◌∷◌, ◌++◌, leb, eqb, take}
-use Rattle.circuit.specs.declared.Found.{Found}
+use Rattle.std.specs.Prelude.{ℕ, Bool, false, ◌&&◌, ◌||◌, List, [], ◌∷◌, ◌++◌, leb, eqb, take, Option}
 use Rattle.circuit.specs.File.{records, kind_byte, field, either, count_of}
 use Rattle.circuit.specs.Search.{first_such}
 use Rattle.circuit.specs.Meaning.{list_of}
@@ -32,5 +31,5 @@ unfoldable pub late : List ℕ → ℕ → Bool
 late c n = leb (kind_byte c n) 13 && not_below n (named_by c n) || no_gate_in_b c n || no_gate_in_a c n
 
 -- the first such record
-unfoldable pub first_late : List ℕ → Found
+unfoldable pub first_late : List ℕ → Option ℕ
 first_late c = first_such (late c) 0 (records c)

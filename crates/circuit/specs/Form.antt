@@ -1,10 +1,9 @@
 -- "3: a record breaks the form above (unknown kind, order, unused field not 0, numbering, value, nid)."
 -- Each part is a test of record n and of the records before it.
 -- Assumes nothing.
-use Rattle.std.specs.Prelude.{ℕ, suc, Bool, not, ◌&&◌, ◌||◌, List, [], ◌∷◌, leb, ltb, eqb, get_or}
+use Rattle.std.specs.Prelude.{ℕ, suc, Bool, not, ◌&&◌, ◌||◌, List, [], ◌∷◌, leb, ltb, eqb, get_or, Option}
 use Rattle.circuit.specs.declared.Section.{Section}
 use Rattle.circuit.specs.declared.Section.TheVariants.{Gates, ListBits, BadStates, Constraints, InputBits, Unknown}
-use Rattle.circuit.specs.declared.Found.{Found}
 use Rattle.circuit.specs.File.{records, kind_byte, byte1, field, nid_at, section_at, either, is_bit_of}
 use Rattle.circuit.specs.Search.{first_such, any_before}
 use Rattle.circuit.specs.Meaning.{numbers_to}
@@ -90,5 +89,5 @@ breaks c n =
     eqb (order_at c n) 5 || misplaced c n || unused_set c n || misnumbered_as 20 c n || misnumbered_as 23 c n || bad_value c n || other_nid c n
 
 -- the first record that breaks the form
-unfoldable pub first_broken : List ℕ → Found
+unfoldable pub first_broken : List ℕ → Option ℕ
 first_broken c = first_such (breaks c) 0 (records c)

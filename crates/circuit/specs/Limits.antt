@@ -1,8 +1,7 @@
 -- What the limits of check 2 say.
 -- Assumes nothing.
-use Rattle.std.specs.Prelude.{ℕ, ◌≤◌, ◌≡◌, false, List, refl}
+use Rattle.std.specs.Prelude.{ℕ, ◌≤◌, ◌≡◌, false, List, refl, None}
 use Rattle.std.proofs.Common.{ltb-false}
-use Rattle.circuit.specs.declared.Found.TheVariants.{Nowhere}
 use Rattle.circuit.specs.declared.Counts.{Counts}
 use Rattle.circuit.specs.File.{count_of}
 use Rattle.circuit.specs.Form.{first_broken}
@@ -32,7 +31,7 @@ few k e =
     }
 
 -- what checks 2 and 3 give
-pub regular : (c : List ℕ) → too_many (counts_of c) ≡ false → first_broken c ≡ Nowhere → Regular c
+pub regular : (c : List ℕ) → too_many (counts_of c) ≡ false → first_broken c ≡ None → Regular c
 unfolding counts_of
 regular c e f =
     let h : Few (counts_of c) = few (counts_of c) e in

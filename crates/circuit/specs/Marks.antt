@@ -1,11 +1,10 @@
 -- What check 4 gives, and one mark for each gate that an input bit has listed, which is enough for check 5.
 -- Assumes nothing.
-use Rattle.std.specs.Prelude.{ℕ, ◌+◌, ◌≤◌, ◌<◌, ◌≡◌, refl, true, false, not, ◌&&◌, ◌||◌, List, leb, eqb, length, get_or, set, replicate}
+use Rattle.std.specs.Prelude.{ℕ, ◌+◌, ◌≤◌, ◌<◌, ◌≡◌, refl, true, false, not, ◌&&◌, ◌||◌, List, leb, eqb, length, get_or, set, replicate, None}
 use Rattle.std.proofs.Common.{sym, ◌∙◌, arith, add-one, leb-false, eqb-true, eq-eqb, ne_eqb, length-set, get_or-set_same, get_or-set_other}
 use Rattle.std.proofs.Math.Bool.{or-false, or-true}
 use Rattle.std.proofs.Math.Decide.{ℕ_discrete}
 use Rattle.std.proofs.lemmas.List.{length-replicate, get_or-replicate}
-use Rattle.circuit.specs.declared.Found.TheVariants.{Nowhere}
 use Rattle.circuit.specs.File.{records, kind_byte, field, count_of}
 use Rattle.circuit.specs.Search.{any_before, found_nowhere}
 use Rattle.circuit.specs.Count.{by-test}
@@ -19,7 +18,7 @@ use Rattle.circuit.specs.Partner.{listed_before}
 -- A file that passed checks 2, 3 and 4.
 pub record Timely (c : List ℕ) : Type 0 where
   pub regular : Regular c
-  pub early : first_late c ≡ Nowhere
+  pub early : first_late c ≡ None
 
 module _ (c : List ℕ) (t : Timely c) where
   pub not_late : (n : ℕ) → n < records c → late c n ≡ false

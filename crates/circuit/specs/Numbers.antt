@@ -1,7 +1,7 @@
 -- What check 3 gives of the numbers of lists and of inputs: "begin at 0 and either stay or rise by one; at most 63. Each list or input has 1 to 64 bits."
 -- Assumes nothing.
 use Prim.Native.Nat.{ℕ, zero, suc, ◌+◌, ◌≤◌, ◌<◌}
-use Rattle.std.specs.Prelude.{◌≡◌, refl, Bool, false, List, ◌∷◌, length}
+use Rattle.std.specs.Prelude.{◌≡◌, refl, Bool, false, List, ◌∷◌, length, None}
 use Rattle.std.proofs.Common.{sym, ◌∙◌}
 use Rattle.std.proofs.Math.Path.{ap}
 use Rattle.std.proofs.Math.Bool.{true}
@@ -9,7 +9,6 @@ use native.Mathlib.Omega.{arith}
 use Rattle.std.proofs.Math.Decide.{dec_le}
 use borrow.Author.Tests.{eqb-true, eqb-false, eq-eqb, ne_eqb}
 use Rattle.std.proofs.Math.Dec.{eqb}
-use Rattle.circuit.specs.declared.Found.TheVariants.{Nowhere}
 use Rattle.circuit.specs.declared.Run.{Run}
 use Rattle.circuit.specs.File.{records, kind_byte, field, cons_if, is_bit_of, bits_of}
 use Rattle.circuit.specs.Count.{by-test, count_before, length-those}
@@ -156,7 +155,7 @@ module _ (c : List ℕ) (kind : ℕ) (fit : Fitting c kind) where
         few = few-to (records c) (omega arith);
       }
 
-module _ (c : List ℕ) (form : first_broken c ≡ Nowhere) where
+module _ (c : List ℕ) (form : first_broken c ≡ None) where
   pub lists-numbered : Numbered c 20
   lists-numbered =
       numbered-by c 20 (λ n u f.

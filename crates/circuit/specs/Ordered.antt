@@ -1,12 +1,11 @@
 -- What check 3 gives of a file whose form is right: each section stands in one stretch, after the sections before it, and so does each list.
 -- Assumes nothing.
-use Rattle.std.specs.Prelude.{ℕ, zero, suc, ◌+◌, ◌-◌, ◌≤◌, ◌<◌, ◌≡◌, Bool, false, ◌&&◌, List, leb, eqb, length}
+use Rattle.std.specs.Prelude.{ℕ, zero, suc, ◌+◌, ◌-◌, ◌≤◌, ◌<◌, ◌≡◌, Bool, false, ◌&&◌, List, leb, eqb, length, None}
 use Rattle.std.proofs.Common.{sym, ap, ◌∙◌, arith, add-one}
 use borrow.Author.Tests.{ltb-true, ltb-false, leb-true, leb-false, eqb-true, eqb-false, lt-ltb, le-ltb, le-leb, lt-leb, eq-eqb, ne_eqb}
 use Rattle.std.proofs.Math.Dec.{ltb}
 use Rattle.circuit.specs.declared.Section.{Section}
 use Rattle.circuit.specs.declared.Section.TheVariants.{Gates, ListBits, BadStates, Constraints, InputBits, Unknown}
-use Rattle.circuit.specs.declared.Found.TheVariants.{Nowhere}
 use Rattle.circuit.specs.declared.Passed.{Passed}
 use Rattle.circuit.specs.File.{records, kind_byte, section_of, section_at, those, places_of, count_of}
 use Rattle.circuit.specs.Search.{any_before, found_nowhere}
@@ -108,7 +107,7 @@ pub record Formed (c : List ℕ) (n : ℕ) : Type 0 where
   pub value : bad_value c n ≡ false
   pub nid : other_nid c n ≡ false
 
-module _ (c : List ℕ) (form : first_broken c ≡ Nowhere) where
+module _ (c : List ℕ) (form : first_broken c ≡ None) where
   pub unbroken : (n : ℕ) → n < records c → breaks c n ≡ false
   unfolding first_broken
   unbroken n l = found_nowhere (breaks c) (records c) 0 form n (omega arith) (omega arith)
@@ -155,7 +154,7 @@ kind-by : (c : List ℕ) (x s : ℕ) → ((k : ℕ) → eqb k x ≡ eqb (order_o
 unfolding order_at section_at
 kind-by c x s h = those-same _ _ 0 (records c) (λ n. one-kind x (kind_byte c n) ∙ h (kind_byte c n))
 
-module _ (c : List ℕ) (form : first_broken c ≡ Nowhere) where
+module _ (c : List ℕ) (form : first_broken c ≡ None) where
   stretch : (s : ℕ) (l : List ℕ) → l ≡ those (λ (n : ℕ). eqb (order_at c n) s) 0 (records c) → (l ≡ range (sec c s) (length l)) × (sec c (suc s) ≡ sec c s + length l)
   stretch s l e =
       let t : l ≡ range (sec c s) (sec c (suc s) - sec c s) = e ∙ together (order_at c) s (records c) (order-rising c form) in

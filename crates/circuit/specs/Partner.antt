@@ -1,7 +1,6 @@
 -- "5: a carry's adder is not of its kind; a named list, of any number, has no bits; an input bit's gate is not InputBit or was listed before."
 -- Assumes nothing.
-use Rattle.std.specs.Prelude.{ℕ, Bool, true, false, not, ◌&&◌, ◌||◌, List, [], ◌∷◌, eqb}
-use Rattle.circuit.specs.declared.Found.{Found}
+use Rattle.std.specs.Prelude.{ℕ, Bool, true, false, not, ◌&&◌, ◌||◌, List, [], ◌∷◌, eqb, Option}
 use Rattle.circuit.specs.File.{records, kind_byte, field}
 use Rattle.circuit.specs.Search.{first_such, any_before}
 use Rattle.circuit.specs.Meaning.{list_of}
@@ -33,5 +32,5 @@ unfoldable pub wrong : List ℕ → ℕ → Bool
 wrong c n = wrong_adder c n || empty_list c n || wrong_input c n
 
 -- the first such record
-unfoldable pub first_wrong : List ℕ → Found
+unfoldable pub first_wrong : List ℕ → Option ℕ
 first_wrong c = first_such (wrong c) 0 (records c)

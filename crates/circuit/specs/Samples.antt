@@ -1,9 +1,8 @@
 -- Worked circuits, computed. Assumes nothing.
-use Rattle.std.specs.Prelude.{◌≡◌, refl, true, ℕ, List, [], ◌∷◌, ◌++◌, replicate}
+use Rattle.std.specs.Prelude.{◌≡◌, refl, true, ℕ, List, [], ◌∷◌, ◌++◌, replicate, Err, Ok}
 use Rattle.energy.specs.Circuit.{InputBit, And, Quotient}
 use Rattle.circuit.specs.File.{kind_byte, byte1, field, nid_at, kind_of, kind_at, those}
 use Rattle.circuit.specs.declared.Refusal.TheVariants.{NoBadState, Length, Room, Form}
-use Rattle.circuit.specs.declared.Checked.TheVariants.{Accepted, Refused}
 use Rattle.circuit.specs.File.{section_of, section_at}
 use Rattle.circuit.specs.Search.{first_such, any_before}
 use Rattle.circuit.specs.Refusals.{place}
@@ -48,21 +47,21 @@ circuit-Q = refl
 -- ---- the checks' answers
 
 -- "Empty input answers 6."
-empty-answers : checked [] 0 0 0 ≡ Refused NoBadState
+empty-answers : checked [] 0 0 0 ≡ Err NoBadState
 unfolding checked named roomed counts_of first_broken first_late first_wrong first_such those numbers_to
 empty-answers = refl
 
 -- "17 bytes: 1."
-seventeen-answers : checked (replicate 17 0) 9 9 9 ≡ Refused Length
+seventeen-answers : checked (replicate 17 0) 9 9 9 ≡ Err Length
 unfolding checked
 seventeen-answers = refl
 
 -- P needs 3 gates, 3 * 3 + 1 + 1 qubits and 10 * 3 + 3 * 1 pairs
-pub accepted-P : checked bytes_p 3 11 33 ≡ Accepted (record { gates = 3; list_bits = 0; lists = 0; bad_states = 1; constraints = 0; input_bits = 2; inputs = 1 })
+pub accepted-P : checked bytes_p 3 11 33 ≡ Ok (record { gates = 3; list_bits = 0; lists = 0; bad_states = 1; constraints = 0; input_bits = 2; inputs = 1 })
 unfolding bytes_p kind_byte byte1 field nid_at section_of section_at those first_such any_before numbers_to list_of order_at misplaced used_fields unused_set times bad_number nid_before breaks first_broken named_by not_below late first_late listed_before wrong first_wrong counts_of roomed named checked
 accepted-P = refl
 
-one-pair-less : checked bytes_p 3 11 32 ≡ Refused Room
+one-pair-less : checked bytes_p 3 11 32 ≡ Err Room
 unfolding bytes_p kind_byte byte1 field nid_at section_of section_at those first_such any_before numbers_to list_of order_at misplaced used_fields unused_set times bad_number nid_before breaks first_broken named_by not_below late first_late listed_before wrong first_wrong counts_of roomed named checked
 one-pair-less = refl
 
@@ -70,6 +69,6 @@ one-pair-less = refl
 bytes_r : List ℕ
 bytes_r = row 2 0 0 0 0 0 ++ row 4 0 0 1 0 0 ++ row 21 0 1 0 0 0 ++ row 23 0 0 0 0 5 ++ row 23 0 0 0 0 6
 
-three-before-four : checked bytes_r 9 99 99 ≡ Refused (Form (place 4))
+three-before-four : checked bytes_r 9 99 99 ≡ Err (Form (place 4))
 unfolding bytes_r kind_byte byte1 field nid_at section_of section_at those first_such any_before numbers_to list_of order_at misplaced used_fields unused_set times bad_number nid_before breaks first_broken named_by not_below late first_late listed_before wrong first_wrong counts_of roomed named checked
 three-before-four = refl

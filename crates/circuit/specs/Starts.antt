@@ -1,12 +1,11 @@
 -- Where each list's bits stand, and each input's: since numbers only stay or rise, the bits of one list stand together.
 -- Assumes nothing.
-use Rattle.std.specs.Prelude.{ℕ, suc, ◌+◌, ◌-◌, ◌≤◌, ◌<◌, ◌≡◌, ◌⊎◌, Bool, true, ◌&&◌, ◌||◌, List, [], map, eqb, length}
+use Rattle.std.specs.Prelude.{ℕ, suc, ◌+◌, ◌-◌, ◌≤◌, ◌<◌, ◌≡◌, ◌⊎◌, Bool, true, ◌&&◌, ◌||◌, List, [], map, eqb, length, None}
 use Rattle.std.proofs.Common.{sym, ◌∙◌, inl, inr, ⊎_elim, arith, lit<}
 use Rattle.std.proofs.Math.Path.{ap}
 use Rattle.std.proofs.Math.Decide.{dec_le}
 use borrow.Author.Tests.{ltb-true, ltb-false, eqb-true, eqb-false, lt-ltb, le-ltb, le-leb, lt-leb, eq-eqb, ne_eqb}
 use Rattle.std.proofs.Math.Dec.{leb, ltb, leb-suc-suc, eqb-suc-suc}
-use Rattle.circuit.specs.declared.Found.TheVariants.{Nowhere}
 use Rattle.circuit.specs.File.{records, kind_byte, field, section_of, section_at, either, those, is_bit_of, bits_of, count_of}
 use Rattle.circuit.specs.Count.{by-test, count_before, range, length-those, count_same, count-all, count-le, Rising, under, boundary, together, those-same, none_of}
 use Rattle.circuit.specs.Meaning.{list_of}
@@ -66,7 +65,7 @@ kinds-rise : (j k : ℕ) → order_of (section_of j) ≤ order_of (section_of k)
 kinds-rise j k h l =
     ⊎_elim (λ a. inl a.0) (λ a. ⊎_elim (λ b. absurd (omega arith)) (λ b. inr (omega arith)) (kind-order k l)) (kind-order j (omega arith))
 
-module _ (c : List ℕ) (form : first_broken c ≡ Nowhere) where
+module _ (c : List ℕ) (form : first_broken c ≡ None) where
   kind-rises : (m n : ℕ) → m < n → n < records c → (kind_byte c m ≤ 13) ⊎ (kind_byte c m ≤ kind_byte c n)
   unfolding order_at section_at
   kind-rises m n l u = kinds-rise (kind_byte c m) (kind_byte c n) (order-rising c form m n l u) (known-order c form n u)
@@ -92,7 +91,7 @@ module _ (c : List ℕ) (kind n : ℕ) where
       (λ e. f (ltb-true (kind_byte c n) kind e))
       (λ e. by-test (eqb (kind_byte c n) kind) (λ i. g (eqb-true (kind_byte c n) kind i)) (λ i. h (omega (arith, ltb-false (kind_byte c n) kind e, eqb-false (kind_byte c n) kind i))))
 
-module _ (c : List ℕ) (form : first_broken c ≡ Nowhere) (kind : ℕ) (past : 13 < kind) (num : Numbered c kind) where
+module _ (c : List ℕ) (form : first_broken c ≡ None) (kind : ℕ) (past : 13 < kind) (num : Numbered c kind) where
   key-rising : Rising (key c kind) (records c)
   key-rising m n l u =
       kind-split c kind m
@@ -175,7 +174,7 @@ lists-kinds k h =
     (λ l e. rw (e, l))
     (λ l f1 f2 f3 f4 e. absurd (omega arith))
 
-module _ (c : List ℕ) (form : first_broken c ≡ Nowhere) where
+module _ (c : List ℕ) (form : first_broken c ≡ None) where
   -- the records that are gates or list bits
   pub lists-end : count_before (λ (n : ℕ). leb (kind_byte c n) 20) (records c) ≡ count_of c 0 13 + count_of c 20 20
   unfolding order_at section_at
@@ -189,7 +188,7 @@ module _ (c : List ℕ) (form : first_broken c ≡ Nowhere) where
 
 -- A file that passed checks 2 and 3.
 pub record Regular (c : List ℕ) : Type 0 where
-  pub form : first_broken c ≡ Nowhere
+  pub form : first_broken c ≡ None
   pub gates : count_of c 0 13 ≤ 1000
   pub list_bits : count_of c 20 20 ≤ 4096
   pub bads : count_of c 21 21 ≤ 64

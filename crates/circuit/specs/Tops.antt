@@ -1,9 +1,8 @@
 -- One number of each list is enough for checks 4 and 5: one more than its largest gate, and 0 where it has no bits.
 -- Assumes nothing.
-use Rattle.std.specs.Prelude.{ℕ, zero, suc, ◌≤◌, ◌<◌, max, ◌≡◌, refl, Bool, true, false, ◌&&◌, ◌||◌, List, [], ◌∷◌, ◌++◌, map, leb, ltb, eqb, get_or, take}
+use Rattle.std.specs.Prelude.{ℕ, zero, suc, ◌≤◌, ◌<◌, max, ◌≡◌, refl, Bool, true, false, ◌&&◌, ◌||◌, List, [], ◌∷◌, ◌++◌, map, leb, ltb, eqb, get_or, take, None}
 use Rattle.std.proofs.Common.{sym, ap, ◌∙◌, arith, zero-add, ltb-true, ltb-false, leb-true, leb-false, lt-ltb, le-ltb, ne_eqb, lit<}
 use Rattle.std.proofs.Math.Bool.{or_assoc, or-false}
-use Rattle.circuit.specs.declared.Found.TheVariants.{Nowhere}
 use Rattle.circuit.specs.File.{either}
 use Rattle.circuit.specs.Count.{by-test, range, length-range, get_or-range, get_d_of}
 use Rattle.circuit.specs.Meaning.{list_of}
@@ -25,12 +24,12 @@ tops_of c = map (λ (k : ℕ). top_of (list_of c k)) (range 0 64)
 abbrev pub top_at : List ℕ → ℕ → ℕ
 top_at tops k = either (ltb k 64) (get_or tops k 0) 0
 
-past_top : (c : List ℕ) → first_broken c ≡ Nowhere → (k : ℕ) → 64 ≤ k → top_of (list_of c k) ≡ 0
+past_top : (c : List ℕ) → first_broken c ≡ None → (k : ℕ) → 64 ≤ k → top_of (list_of c k) ≡ 0
 unfolding list_of top_of
 past_top c form k l = rw (no_bits c form 20 (lit< tt) (lists-numbered c form) k l)
 
 -- what the table has of list k is right for every k
-pub top-at : (c : List ℕ) → first_broken c ≡ Nowhere → (k : ℕ) → top_at (tops_of c) k ≡ top_of (list_of c k)
+pub top-at : (c : List ℕ) → first_broken c ≡ None → (k : ℕ) → top_at (tops_of c) k ≡ top_of (list_of c k)
 unfolding tops_of
 top-at c form k = by-test (ltb k 64) inside outside
   where

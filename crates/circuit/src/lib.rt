@@ -3,6 +3,9 @@
 // inputs of an accepted file; the code of the checks 1 to 7 is the crates `circuit_form`, `circuit_sizes`, `circuit_references` and `circuit_check`.
 #![tactic(auto)]
 
+ghost use Rattle.std.specs.Prelude.{◌≡◌};
+ghost use Rattle.circuit.specs.File.{kind_of, section_of};
+
 pub mod answers;
 
 use units::{Gate, Qubit};
@@ -26,6 +29,31 @@ pub enum GateKind {
     Remainder,
 }
 
+// By its number in the file; a number that is no gate's is read as ConstFalse.
+impl From<u8> for GateKind {
+    ghost from_gives = { λ k g. g ≡ kind_of k };
+
+    #[tactic(auto, unfolding(crate::specs::File::kind_of))]
+    fn from(kind: u8) -> GateKind {
+        match kind {
+            1 => GateKind::ConstTrue,
+            2 => GateKind::InputBit,
+            3 => GateKind::Not,
+            4 => GateKind::And,
+            5 => GateKind::Nand,
+            6 => GateKind::Or,
+            7 => GateKind::Matriarch1,
+            8 => GateKind::CarryHalfAdder,
+            9 => GateKind::ResultHalfAdder,
+            10 => GateKind::CarryFullAdder,
+            11 => GateKind::ResultFullAdder,
+            12 => GateKind::Quotient,
+            13 => GateKind::Remainder,
+            _ => GateKind::ConstFalse,
+        }
+    }
+}
+
 // The sections of the file, in their order.
 #[derive(Clone, Copy)]
 pub enum Section {
@@ -37,11 +65,21 @@ pub enum Section {
     Unknown,
 }
 
-// Where something is found first, if anywhere: the number of a record.
-#[derive(Clone, Copy)]
-pub enum Found {
-    At(usize),
-    Nowhere,
+// By the number of a record's kind.
+impl From<u8> for Section {
+    ghost from_gives = { λ k s. s ≡ section_of k };
+
+    #[tactic(auto, unfolding(crate::specs::File::section_of))]
+    fn from(kind: u8) -> Section {
+        match kind {
+            0..=13 => Section::Gates,
+            20 => Section::ListBits,
+            21 => Section::BadStates,
+            22 => Section::Constraints,
+            23 => Section::InputBits,
+            _ => Section::Unknown,
+        }
+    }
 }
 
 // Of the numbers of lists, or of inputs, in the records passed: how many have begun, and how many bits the last one has.
@@ -52,6 +90,7 @@ pub struct Run {
 }
 
 // What the form of the next record depends on: the last record's place in the order of sections, the lists and the inputs so far, and the last input's nid.
+// The place is a number, as `order_at` of specs/Form.antt has it: two places are compared, and unknown kinds come last.
 #[derive(Clone, Copy)]
 pub struct Passed {
     pub order: u8,
@@ -115,11 +154,4 @@ pub enum Refusal {
     NotGiven(Qubit),
     // 17: the text buffer is shorter than the text
     ShortText,
-}
-
-// The answer of the checks.
-#[derive(Clone, Copy)]
-pub enum Checked {
-    Accepted(Counts),
-    Refused(Refusal),
 }

@@ -6,7 +6,7 @@ ghost use Rattle.std.specs.Prelude.{◌≡◌, false};
 ghost use Rattle.circuit.specs.Starts.{Regular};
 ghost use Rattle.circuit.specs.Check.{counts_of, too_many, roomed, named, checked};
 
-use circuit::{Checked, Counts, Found, Record, Refusal};
+use circuit::{Counts, Record, Refusal};
 use circuit_form::first_broken;
 use circuit_lists::list_tops;
 use circuit_references::earlier::first_late;
@@ -14,52 +14,53 @@ use circuit_references::partner::first_wrong;
 use circuit_sizes::{counts_of, no_room, too_many};
 
 // Checks 6 and 7.
-fn check_room(k: Counts, gates: usize, qubits: usize, pairs: usize) -> Checked
+fn check_room(k: Counts, gates: usize, qubits: usize, pairs: usize) -> Result<Counts, Refusal>
     requires { too_many k ≡ false }
     ensures { result ≡ roomed k gates qubits pairs }
 {
     if k.bad_states == 0 {
-        return Checked::Refused(Refusal::NoBadState);
+        return Err(Refusal::NoBadState);
     }
     if no_room(k, gates, qubits, pairs) {
-        return Checked::Refused(Refusal::Room);
+        return Err(Refusal::Room);
     }
-    Checked::Accepted(k)
+    Ok(k)
 }
 
 // Checks 4 to 7.
-fn check_names(c: &[u8], k: Counts, gates: usize, qubits: usize, pairs: usize) -> Checked
+fn check_names(
+    c: &[u8],
+    k: Counts,
+    gates: usize,
+    qubits: usize,
+    pairs: usize,
+) -> Result<Counts, Refusal>
     requires { Regular c.now × (k ≡ counts_of c.now) × (too_many k ≡ false) }
     ensures { result ≡ named c.now gates qubits pairs }
 {
     let tops = list_tops(c);
-    let late = first_late(c, k.gates, &tops);
-    match late {
-        Found::At(n) => Checked::Refused(Refusal::NotEarlier(Record(n))),
-        Found::Nowhere => {
-            let wrong = first_wrong(c, &tops);
-            match wrong {
-                Found::At(n) => Checked::Refused(Refusal::Partner(Record(n))),
-                Found::Nowhere => check_room(k, gates, qubits, pairs),
-            }
-        }
+    if let Some(n) = first_late(c, k.gates, &tops) {
+        return Err(Refusal::NotEarlier(Record(n)));
     }
+    if let Some(n) = first_wrong(c, &tops) {
+        return Err(Refusal::Partner(Record(n)));
+    }
+    check_room(k, gates, qubits, pairs)
 }
 
 // All seven: the counts of a circuit file that the tables can hold, or the refusal.
-pub fn check(c: &[u8], gates: usize, qubits: usize, pairs: usize) -> Checked
+pub fn check(c: &[u8], gates: usize, qubits: usize, pairs: usize) -> Result<Counts, Refusal>
     ensures { result ≡ checked c.now gates qubits pairs }
 {
     if c.len() % 16 != 0 {
-        return Checked::Refused(Refusal::Length);
+        return Err(Refusal::Length);
     }
     let k = counts_of(c);
     if too_many(k) {
-        return Checked::Refused(Refusal::TooMany);
+        return Err(Refusal::TooMany);
     }
-    let broken = first_broken(c);
-    match broken {
-        Found::At(n) => Checked::Refused(Refusal::Form(Record(n))),
-        Found::Nowhere => check_names(c, k, gates, qubits, pairs),
+    if let Some(n) = first_broken(c) {
+        return Err(Refusal::Form(Record(n)));
     }
+    check_names(c, k, gates, qubits, pairs)
 }

@@ -1,13 +1,13 @@
 -- The loop that finds where each list starts: what holds of its table before record n. Assumes nothing.
 use Prim.Native.Nat.{ℕ, suc, ◌+◌, ◌≤◌, ◌<◌}
 use mathlib.Core.Path.{◌≡◌, refl, sym, ap, ◌∙◌}
-use mathlib.Core.Bool.{true, false, ◌&&◌}
+use mathlib.Core.Bool.{true}
 use mathlib.Core.List.{List, map}
 use native.Mathlib.Omega.{arith}
 use native.Mathlib.Numerals.{add-one}
 use native.Mathlib.Decide.{dec_le}
 use native.Mathlib.Nat.{zero-add}
-use borrow.Author.Tests.{eqb-true, eqb-false, eq-eqb}
+use borrow.Author.Tests.{eqb-true, eq-eqb}
 use lib.Dec.{eqb}
 use lib.ListN.{length, get_or, set, replicate, length-set, length-replicate, get_or-replicate, length-map}
 use lib.Seq.{get_or-set_same, get_or-set_other, ext_get_or}
@@ -21,16 +21,6 @@ pub record Starting (c : List ℕ) (kind last : ℕ) (n next : ℕ) (starts : Li
   pub fresh : next ≡ how_many (numbers_to c kind n)
   pub done : (k : ℕ) → k < next → get_or starts k 0 ≡ start_of c kind k
   pub rest : (k : ℕ) → next ≤ k → k < 65 → get_or starts k 0 ≡ last
-
--- what the code's test says
-is-new : (c : List ℕ) (n : ℕ) {kind k a next : ℕ} → k ≡ kind_byte c n → a ≡ field c n 0 → (eqb k kind && eqb a next) ≡ true → (kind_byte c n ≡ kind) × (field c n 0 ≡ next)
-is-new c n {kind} {k} {a} {next} i j e = by-test (eqb k kind) bit (λ f. absurd (never f))
-  where
-    bit : eqb k kind ≡ true → (kind_byte c n ≡ kind) × (field c n 0 ≡ next)
-    bit f = (sym i ∙ eqb-true k kind f, sym j ∙ eqb-true a next (rw f at e))
-
-    never : eqb k kind ≡ false → ⊥
-    never f = let z : ◌≡◌ false true = rw f at e in let w : ◌≡◌ {A = ℕ} 0 1 = cc in omega arith
 
 module _ (c : List ℕ) (kind last : ℕ) (h : Ends c kind last) where
   pub starting-start : Starting c kind last 0 0 (replicate 65 last)
@@ -65,15 +55,15 @@ module _ (c : List ℕ) (kind last : ℕ) (h : Ends c kind last) where
           let same : k ≡ next = omega arith in
           rw same (get_or-set_same starts next n 0 (omega (arith, s.long, small)) ∙ sym here)
 
-  pub starting-same : (n next : ℕ) (starts : List ℕ) → Starting c kind last n next starts → n < records c → (eqb (kind_byte c n) kind && eqb (field c n 0) next) ≡ false → Starting c kind last (n + 1) next starts
+  pub starting-same : (n next : ℕ) (starts : List ℕ) → Starting c kind last n next starts → n < records c → (kind_byte c n ≡ kind → field c n 0 ≡ next → ⊥) → Starting c kind last (n + 1) next starts
   unfolding numbers_to
   starting-same n next starts s u e =
       record { long = s.long; fresh = rw add-one (by-test (eqb (kind_byte c n) kind) bit (λ f. rw f s.fresh)); done = s.done; rest = s.rest }
     where
       bit : eqb (kind_byte c n) kind ≡ true → next ≡ how_many (cons_if (eqb (kind_byte c n) kind) (field c n 0) (numbers_to c kind n))
       bit f =
-          let other : field c n 0 ≡ next → ⊥ = eqb-false (field c n 0) next (rw f at e) in
-          let final : field c n 0 + 1 ≡ how_many (numbers_to c kind n) = h.numbered.next n u (eqb-true (kind_byte c n) kind f) (λ z. other (z ∙ sym s.fresh)) in
+          let bits : kind_byte c n ≡ kind = eqb-true (kind_byte c n) kind f in
+          let final : field c n 0 + 1 ≡ how_many (numbers_to c kind n) = h.numbered.next n u bits (λ z. e bits (z ∙ sym s.fresh)) in
           rw f (omega (arith, s.fresh))
 
   pub starting-end : (next : ℕ) (starts : List ℕ) → Starting c kind last (records c) next starts → starts ≡ starts_of c kind
@@ -94,13 +84,13 @@ module _ (c : List ℕ) (kind last : ℕ) (h : Ends c kind last) where
       at : (k : ℕ) → k < 65 → get_or starts k 0 ≡ start_of c kind k
       at k l = go k l (dec_le (suc k) next)
 
-  -- the same laws, by the code's test
+  -- the same laws, of what the code has read
   module _ {n next : ℕ} {starts : List ℕ} (s : Starting c kind last n next starts) (u : n < records c) {k a : ℕ} (i : k ≡ kind_byte c n) (j : a ≡ field c n 0) where
-    pub turn-new : (eqb k kind && eqb a next) ≡ true → Starting c kind last (n + 1) (next + 1) (set starts next n)
-    turn-new e = let t = is-new c n i j e in starting-new n next starts s u t.0 t.1
+    pub turn-new : k ≡ kind → a ≡ next → Starting c kind last (n + 1) (next + 1) (set starts next n)
+    turn-new e f = starting-new n next starts s u (sym i ∙ e) (sym j ∙ f)
 
-    pub turn-same : (eqb k kind && eqb a next) ≡ false → Starting c kind last (n + 1) next starts
-    turn-same e = starting-same n next starts s u (rw (i, j) at e)
+    pub turn-same : (k ≡ kind → a ≡ next → ⊥) → Starting c kind last (n + 1) next starts
+    turn-same other = starting-same n next starts s u (λ e f. other (i ∙ e) (j ∙ f))
 
   pub starting-done : {n next : ℕ} {starts : List ℕ} → n ≤ records c → records c ≤ n → Starting c kind last n next starts → starts ≡ starts_of c kind
   starting-done {n} {next} {starts} l u s =

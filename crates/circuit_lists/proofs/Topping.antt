@@ -1,4 +1,5 @@
 -- The loop that finds the largest gate of each list: what holds of its table before record n. Assumes nothing.
+use Rattle.std.specs.Prelude.{None}
 use Prim.Native.Nat.{ℕ, suc, ◌+◌, ◌-◌, ◌≤◌, ◌<◌, max}
 use mathlib.Core.Path.{◌≡◌, refl, sym, ap, ◌∙◌}
 use mathlib.Core.Bool.{true, false}
@@ -9,7 +10,6 @@ use native.Mathlib.Decide.{ℕ_discrete}
 use borrow.Author.Tests.{eq-eqb, ne_eqb}
 use lib.ListN.{length, get_or, set, replicate, length-set, length-replicate, get_or-replicate, length-map}
 use lib.Seq.{get_or-set_same, get_or-set_other, ext_get_or}
-use Rattle.circuit.specs.declared.Found.TheVariants.{Nowhere}
 use Rattle.circuit.specs.File.{records, kind_byte, field, those, is_bit_of}
 use Rattle.circuit.specs.Search.{those-step, those-end}
 use Rattle.circuit.specs.Count.{range, length-range, get_or-range, get_d_of}
@@ -50,12 +50,12 @@ top-cons : (g : ℕ) (gs : List ℕ) → top_of (g ∷ gs) ≡ max (suc g) (top_
 unfolding top_of
 top-cons g gs = refl
 
-module _ (c : List ℕ) (form : first_broken c ≡ Nowhere) {n : ℕ} {tops : List ℕ} (t : Topping c n tops) (u : n < records c) {kind k gate : ℕ} (i : kind ≡ kind_byte c n) (j : k ≡ field c n 0) (g : gate ≡ field c n 1) where
-  pub list-small : kind ≡ 20 → k < 64
-  list-small e = omega (arith, (lists-numbered c form).small n u (sym i ∙ e))
+pub list-small : (c : List ℕ) → first_broken c ≡ None → {n kind k : ℕ} → n < records c → kind ≡ kind_byte c n → kind ≡ 20 → k ≡ field c n 0 → k < 64
+list-small c form {n} u i e j = omega (arith, (lists-numbered c form).small n u (sym i ∙ e))
 
-  pub turn-bit : kind ≡ 20 → {new : ℕ} → new ≡ max (get_or tops k 0) (gate + 1) → Topping c (n + 1) (set tops k new)
-  turn-bit e {new} h = record { long = length-set tops k new ∙ t.long; left = λ m l. go m l (ℕ_discrete m k) }
+module _ (c : List ℕ) (form : first_broken c ≡ None) {n : ℕ} {tops : List ℕ} (t : Topping c n tops) (u : n < records c) {kind : ℕ} (i : kind ≡ kind_byte c n) where
+  pub turn-bit : kind ≡ 20 → {k gate new : ℕ} → k ≡ field c n 0 → gate ≡ field c n 1 → new ≡ max (get_or tops k 0) (gate + 1) → Topping c (n + 1) (set tops k new)
+  turn-bit e {k} {gate} {new} j g h = record { long = length-set tops k new ∙ t.long; left = λ m l. go m l (ℕ_discrete m k) }
     where
       go : (m : ℕ) → m < 64 → Dec (m ≡ k) → max (get_or (set tops k new) m 0) (top_of (rest c m (n + 1))) ≡ top_of (list_of c m)
       go m l (yes d) =

@@ -1,9 +1,9 @@
 // The lists, and the inputs: where each one's bits stand, and the largest gate of each list, each found once in one pass. See specs/Starts.antt and specs/Tops.antt of the crate `circuit`.
+// Kinds are bare numbers: 01 names them by these, and the definitions compare them.
 #![tactic(auto)]
 
-ghost use Rattle.std.specs.Prelude.{◌≡◌, max};
+ghost use Rattle.std.specs.Prelude.{◌≡◌, None};
 ghost use Rattle.circuit.specs.File.{count_of};
-ghost use Rattle.circuit.specs.declared.Found.TheVariants.{Nowhere};
 ghost use Rattle.circuit.specs.Form.{first_broken};
 ghost use Rattle.circuit.specs.Starts.{starts_of, Regular, Ends};
 ghost use Rattle.circuit.specs.Tops.{tops_of, top_at};
@@ -17,18 +17,12 @@ fn starts_of(c: &[u8], kind: u8, end: usize) -> [u16; 65]
     requires { Ends c.now kind end }
     ensures { result ≡ starts_of c.now kind }
 {
-    let records = c.len() / 16;
-    let past = end as u16;
-    let mut starts = [past; 65];
-    let mut next: usize = 0;
-    let mut n: usize = 0;
-    while n < records {
-        let byte = kind_byte_at(c, n);
+    let mut starts = [end as u16; 65];
+    let mut next = 0;
+    for n in 0..c.len() / 16 {
         let k = field_at(c, n, 0) as usize;
-        let at = n as u16;
-        n += 1;
-        if (byte == kind) & (k == next) {
-            starts[next] = at;
+        if kind_byte_at(c, n) == kind && k == next {
+            starts[next] = n as u16;
             next += 1;
         }
     }
@@ -51,29 +45,17 @@ pub fn input_starts(c: &[u8]) -> [u16; 65]
     starts_of(c, 23, c.len() / 16)
 }
 
-fn larger(a: usize, b: usize) -> usize
-    ensures { result ≡ max a b }
-{
-    if a < b { b } else { a }
-}
-
 // One more than the largest gate of each list, and 0 for a list that has no bits.
 pub fn list_tops(c: &[u8]) -> [usize; 64]
-    requires { first_broken c.now ≡ Nowhere }
+    requires { first_broken c.now ≡ None }
     ensures { result ≡ tops_of c.now }
 {
-    let records = c.len() / 16;
     let mut tops = [0usize; 64];
-    let mut n: usize = 0;
-    while n < records {
-        let kind = kind_byte_at(c, n);
-        let k = field_at(c, n, 0) as usize;
-        let gate = field_at(c, n, 1) as usize;
-        n += 1;
-        if kind == 20 {
-            let top = tops[k];
-            let new = larger(top, gate + 1);
-            tops[k] = new;
+    for n in 0..c.len() / 16 {
+        if kind_byte_at(c, n) == 20 {
+            let k = field_at(c, n, 0) as usize;
+            let gate = field_at(c, n, 1) as usize;
+            tops[k] = tops[k].max(gate + 1);
         }
     }
     tops
@@ -83,6 +65,5 @@ pub fn list_tops(c: &[u8]) -> [usize; 64]
 pub fn top_of(tops: &[usize; 64], k: u16) -> usize
     ensures { result ≡ top_at tops.now k }
 {
-    let at = k as usize;
-    if at < 64 { tops[at] } else { 0 }
+    tops.get(k as usize).copied().unwrap_or(0)
 }

@@ -11,9 +11,7 @@ pub fn half_at(c: &[u8], at: usize) -> u16
     requires { at + 2 ≤ length c.now }
     ensures { result ≡ half c.now at }
 {
-    let low = c[at] as u16;
-    let high = c[at + 1] as u16;
-    low + 256 * high
+    u16::from_le_bytes([c[at], c[at + 1]])
 }
 
 // The number of four bytes, low byte first.
@@ -21,12 +19,11 @@ pub fn word_at(c: &[u8], at: usize) -> u32
     requires { at + 4 ≤ length c.now }
     ensures { result ≡ word c.now at }
 {
-    let low = half_at(c, at) as u32;
-    let high = half_at(c, at + 2) as u32;
-    low + 65536 * high
+    u32::from_le_bytes([c[at], c[at + 1], c[at + 2], c[at + 3]])
 }
 
 // Byte 0 of record n: the number of its kind.
+#[tactic(auto, unfolding(circuit::specs::File::kind_byte))]
 pub fn kind_byte_at(c: &[u8], n: usize) -> u8
     requires { 16 * (n + 1) ≤ length c.now }
     ensures { result ≡ kind_byte c.now n }
@@ -35,6 +32,7 @@ pub fn kind_byte_at(c: &[u8], n: usize) -> u8
 }
 
 // Byte 1 of record n: a division's index, or a constraint's value.
+#[tactic(auto, unfolding(circuit::specs::File::byte1))]
 pub fn byte1_at(c: &[u8], n: usize) -> u8
     requires { 16 * (n + 1) ≤ length c.now }
     ensures { result ≡ byte1 c.now n }
@@ -43,6 +41,7 @@ pub fn byte1_at(c: &[u8], n: usize) -> u8
 }
 
 // Field i of record n: a, b, c are the fields 0, 1, 2.
+#[tactic(auto, unfolding(circuit::specs::File::field))]
 pub fn field_at(c: &[u8], n: usize, i: usize) -> u16
     requires { (16 * (n + 1) ≤ length c.now) × (i < 3) }
     ensures { result ≡ field c.now n i }
@@ -51,51 +50,38 @@ pub fn field_at(c: &[u8], n: usize, i: usize) -> u16
 }
 
 // The nid of record n.
+#[tactic(auto, unfolding(circuit::specs::File::nid_at))]
 pub fn nid_at(c: &[u8], n: usize) -> u64
     requires { 16 * (n + 1) ≤ length c.now }
     ensures { result ≡ nid_at c.now n }
 {
-    let low = word_at(c, 16 * n + 8) as u64;
-    let high = word_at(c, 16 * n + 12) as u64;
-    low + 4294967296 * high
+    let at = 16 * n + 8;
+    u64::from_le_bytes([
+        c[at],
+        c[at + 1],
+        c[at + 2],
+        c[at + 3],
+        c[at + 4],
+        c[at + 5],
+        c[at + 6],
+        c[at + 7],
+    ])
 }
 
 // The section that record n belongs to.
+#[tactic(auto, unfolding(circuit::specs::File::section_at))]
 pub fn section_at(c: &[u8], n: usize) -> Section
     requires { 16 * (n + 1) ≤ length c.now }
     ensures { result ≡ section_at c.now n }
 {
-    let kind = kind_byte_at(c, n);
-    match kind {
-        0..=13 => Section::Gates,
-        20 => Section::ListBits,
-        21 => Section::BadStates,
-        22 => Section::Constraints,
-        23 => Section::InputBits,
-        _ => Section::Unknown,
-    }
+    kind_byte_at(c, n).into()
 }
 
 // The gate that record n is; of a record that is no gate, ConstFalse.
+#[tactic(auto, unfolding(circuit::specs::File::kind_at))]
 pub fn kind_at(c: &[u8], n: usize) -> GateKind
     requires { 16 * (n + 1) ≤ length c.now }
     ensures { result ≡ kind_at c.now n }
 {
-    let kind = kind_byte_at(c, n);
-    match kind {
-        1 => GateKind::ConstTrue,
-        2 => GateKind::InputBit,
-        3 => GateKind::Not,
-        4 => GateKind::And,
-        5 => GateKind::Nand,
-        6 => GateKind::Or,
-        7 => GateKind::Matriarch1,
-        8 => GateKind::CarryHalfAdder,
-        9 => GateKind::ResultHalfAdder,
-        10 => GateKind::CarryFullAdder,
-        11 => GateKind::ResultFullAdder,
-        12 => GateKind::Quotient,
-        13 => GateKind::Remainder,
-        _ => GateKind::ConstFalse,
-    }
+    kind_byte_at(c, n).into()
 }

@@ -1,4 +1,5 @@
 -- A division's lists by their largest gates, and operands field by field: what `earlier::late_gate` answers. Assumes nothing.
+use Rattle.std.specs.Prelude.{None}
 use Prim.Native.Nat.{ℕ, ◌≤◌, ◌<◌, ◌+◌}
 use mathlib.Core.Path.{◌≡◌}
 use mathlib.Core.Bool.{true, false, not, ◌&&◌, ◌||◌, or-false}
@@ -6,7 +7,6 @@ use mathlib.Core.List.{List}
 use native.Mathlib.Omega.{arith}
 use borrow.Author.Tests.{le-leb, lt-leb, eqb-true}
 use lib.Dec.{leb, ltb, eqb}
-use Rattle.circuit.specs.declared.Found.TheVariants.{Nowhere}
 use Rattle.circuit.specs.File.{kind_byte, field}
 use Rattle.circuit.specs.Count.{by-test}
 use Rattle.circuit.specs.Meaning.{list_of}
@@ -17,7 +17,7 @@ use Rattle.circuit.specs.Partner.{wrong_adder, empty_list}
 use Rattle.circuit.specs.Tops.{tops_of, top_at, top-at, below_top, below-append, below-fields, empty-top}
 
 module _ (c : List ℕ) (n : ℕ) {kind : ℕ} (k : kind ≡ kind_byte c n) where
-  pub late-lists : first_broken c ≡ Nowhere → {tops : List ℕ} → tops ≡ tops_of c → {x y first second : ℕ} → x ≡ field c n 0 → y ≡ field c n 1 → 12 ≤ kind → first ≡ top_at tops x → second ≡ top_at tops y → (ltb n first || ltb n second) ≡ not_below n (named_by c n)
+  pub late-lists : first_broken c ≡ None → {tops : List ℕ} → tops ≡ tops_of c → {x y first second : ℕ} → x ≡ field c n 0 → y ≡ field c n 1 → 12 ≤ kind → first ≡ top_at tops x → second ≡ top_at tops y → (ltb n first || ltb n second) ≡ not_below n (named_by c n)
   unfolding named_by
   late-lists form t {x} {y} i j l f s =
       rw (le-leb 12 (kind_byte c n) (omega arith), below-append n (list_of c (field c n 0)) (list_of c (field c n 1)), below_top, below_top, f, s, t, i, j, top-at c form (field c n 0), top-at c form (field c n 1))
@@ -39,7 +39,7 @@ module _ (c : List ℕ) (n : ℕ) {kind : ℕ} (k : kind ≡ kind_byte c n) wher
       rw (a, i, ← k, same, or-false))
 
   -- a division's lists
-  pub lists-by : first_broken c ≡ Nowhere → {tops : List ℕ} → tops ≡ tops_of c → {x y first second : ℕ} → x ≡ field c n 0 → y ≡ field c n 1 → (eqb kind 8 || eqb kind 10) ≡ false → first ≡ top_at tops x → second ≡ top_at tops y → ((eqb kind 12 || eqb kind 13) && (eqb first 0 || eqb second 0)) ≡ (wrong_adder c n || empty_list c n)
+  pub lists-by : first_broken c ≡ None → {tops : List ℕ} → tops ≡ tops_of c → {x y first second : ℕ} → x ≡ field c n 0 → y ≡ field c n 1 → (eqb kind 8 || eqb kind 10) ≡ false → first ≡ top_at tops x → second ≡ top_at tops y → ((eqb kind 12 || eqb kind 13) && (eqb first 0 || eqb second 0)) ≡ (wrong_adder c n || empty_list c n)
   lists-by form t i j e f s =
       let no : (eqb kind 8 ≡ false) × (eqb kind 10 ≡ false) = neither (eqb kind 8) (eqb kind 10) e in
       rw (← k, no.0, no.1, empty-top, empty-top, f, s, t, i, j, top-at c form (field c n 0), top-at c form (field c n 1))

@@ -20,9 +20,10 @@ module _ (c : List ℕ) (t : Timely c) (n : ℕ) (u : n < records c) {kind : ℕ
       let h : field c n 1 < count_of c 0 13 = input-gate c t n u (sym k ∙ e) in
       (omega (arith, gates-within c t.regular), omega (arith, t.regular.gates))
 
-  pub input-by : kind ≡ 23 → {marks : List ℕ} → Marks c n marks → {g gate : ℕ} → g ≡ field c n 1 → gate ≡ kind_byte c g → (not (eqb gate 2) || not (eqb (get_or marks g 0) 0)) ≡ wrong_input c n
+  pub input-by : kind ≡ 23 → {marks : List ℕ} → Marks c n marks → {g : ℕ} → g ≡ field c n 1 → kind_byte c g ≡ 2 → not (eqb (get_or marks g 0) 0) ≡ wrong_input c n
   input-by e m i a =
-      rw (a, m.listed _ (input-small e i).1, i, eq-eqb (kind_byte c n) 23 (sym k ∙ e))
+      let two : kind_byte c (field c n 1) ≡ 2 = rw i at a in
+      rw (m.listed _ (input-small e i).1, i, eq-eqb (kind_byte c n) 23 (sym k ∙ e), two)
 
   pub marked : kind ≡ 23 → {marks : List ℕ} → Marks c n marks → {g : ℕ} → g ≡ field c n 1 → Marks c (n + 1) (set marks g 1)
   marked e m i = marks-more c m (sym k ∙ e) i (input-small e i).1

@@ -1,15 +1,15 @@
 // Check 5: the first record whose adder, list or input gate is not what it has to be. See specs/Partner.antt of the crate `circuit`.
+// Kinds are bare numbers: 01 names them by these, and the definitions compare them.
 ghost use Rattle.std.specs.Prelude.{◌≡◌, ◌||◌, ◌+◌, ◌<◌};
 ghost use Rattle.circuit.specs.File.{records};
 ghost use Rattle.circuit.specs.Partner.{wrong_adder, empty_list, wrong_input, first_wrong};
 ghost use Rattle.circuit.specs.Tops.{tops_of};
 ghost use Rattle.circuit.specs.Marks.{Timely, Marks};
 
-use circuit::Found;
 use circuit_lists::top_of;
 use circuit_records::{field_at, kind_byte_at};
 
-// Gate n is a carry whose adder is not of its kind, or a division that names a list without bits.
+// Gate n is a carry whose adder is not of its kind, or a division that names a list without bits. By `|` and `&`: with `||` each way out asks for an answer of its own.
 fn wrong_gate(c: &[u8], n: usize, tops: &[usize; 64]) -> bool
     requires { Timely c.now × (n < records c.now) × (tops.now ≡ tops_of c.now) }
     ensures { result ≡ (wrong_adder c.now n || empty_list c.now n) }
@@ -34,9 +34,7 @@ fn wrong_input(c: &[u8], n: usize, marks: &[u8; 1000]) -> bool
     let kind = kind_byte_at(c, n);
     if kind == 23 {
         let g = field_at(c, n, 1) as usize;
-        let gate = kind_byte_at(c, g);
-        let mark = marks[g];
-        return (gate != 2) | (mark != 0);
+        return kind_byte_at(c, g) != 2 || marks[g] != 0;
     }
     false
 }
@@ -53,21 +51,18 @@ fn mark(c: &[u8], n: usize, marks: &mut [u8; 1000])
     }
 }
 
-pub fn first_wrong(c: &[u8], tops: &[usize; 64]) -> Found
+pub fn first_wrong(c: &[u8], tops: &[usize; 64]) -> Option<usize>
     requires { Timely c.now × (tops.now ≡ tops_of c.now) }
     ensures { result ≡ first_wrong c.now }
 {
-    let records = c.len() / 16;
-    let mut marks = [0u8; 1000];
-    let mut n: usize = 0;
-    while n < records {
+    let mut marks = [0; 1000];
+    for n in 0..c.len() / 16 {
         let gate = wrong_gate(c, n, tops);
         let input = wrong_input(c, n, &marks);
         if gate | input {
-            return Found::At(n);
+            return Some(n);
         }
         mark(c, n, &mut marks);
-        n += 1;
     }
-    Found::Nowhere
+    None
 }

@@ -1,29 +1,26 @@
 -- Digits taken in one by one: what a number so far, and the bytes left, come to.
 -- Assumes nothing.
 use Rattle.std.specs.Prelude.{◌≡◌, refl, Bool, true, false, ◌&&◌, cond, List, [], ◌∷◌, ℕ, ◌+◌, ◌-◌, ◌*◌, ◌^◌, ◌≤◌, ◌<◌, ltb, leb, pos, neg_ℤ, length, take, drop, get_or}
-use Rattle.std.proofs.Common.{ap, true≢false, arith, take_all, lt-ltb, le-leb, leb-true, eq-eqb, ne_eqb}
+use Rattle.std.proofs.Common.{Option, Some, None, ap, true≢false, arith, take_all, lt-ltb, le-leb, leb-true, eq-eqb, ne_eqb}
 use Rattle.std.proofs.lemmas.Bool.{false≢true, lt-leb}
 use Rattle.text.specs.Decimal.{value, value_from}
 use Rattle.decimals.specs.Value.{are_digits, says_up_to, digits_up_to, positive_of, negative_of, value_of}
-use Rattle.decimals.specs.declared.Value.TheVariants.{Is, Not as NoValue}
-use Rattle.decimals.specs.declared.Digits.{Digits}
-use Rattle.decimals.specs.declared.Digits.TheVariants.{Number, Not}
 
-unfoldable pub up_to : ℕ → ℕ → List ℕ → Digits
-up_to most n s = cond (are_digits s && leb (value_from n s) most) (Number (value_from n s)) Not
+unfoldable pub up_to : ℕ → ℕ → List ℕ → Option ℕ
+up_to most n s = cond (are_digits s && leb (value_from n s) most) (Some (value_from n s)) None
 
 pub up-to-start : (most : ℕ) (s : List ℕ) → 0 < length s → digits_up_to most s ≡ up_to most 0 s
 unfolding digits_up_to up_to
 up-to-start most s h = rw (lt-ltb 0 (length s) h)
 
 -- no digits say no number
-pub up-to-none : (most : ℕ) (s : List ℕ) → length s ≡ 0 → digits_up_to most s ≡ Not
+pub up-to-none : (most : ℕ) (s : List ℕ) → length s ≡ 0 → digits_up_to most s ≡ None
 unfolding digits_up_to
 up-to-none most [] h = refl
 up-to-none most (b ∷ s) h = absurd (omega arith)
 
 -- nothing is left
-pub up-to-end : (most n : ℕ) → n ≤ most → up_to most n [] ≡ Number n
+pub up-to-end : (most n : ℕ) → n ≤ most → up_to most n [] ≡ Some n
 unfolding up_to are_digits value_from
 up-to-end most n h = rw (le-leb n most h)
 
@@ -33,11 +30,11 @@ unfolding up_to are_digits value_from
 up-to-digit most n b s low high = rw (le-leb 48 b low, le-leb b 57 high)
 
 -- a byte that is no digit
-pub up-to-below : (most n b : ℕ) (s : List ℕ) → b < 48 → up_to most n (b ∷ s) ≡ Not
+pub up-to-below : (most n b : ℕ) (s : List ℕ) → b < 48 → up_to most n (b ∷ s) ≡ None
 unfolding up_to are_digits
 up-to-below most n b s h = rw (lt-leb 48 b h)
 
-pub up-to-above : (most n b : ℕ) (s : List ℕ) → 57 < b → up_to most n (b ∷ s) ≡ Not
+pub up-to-above : (most n b : ℕ) (s : List ℕ) → 57 < b → up_to most n (b ∷ s) ≡ None
 unfolding up_to are_digits
 up-to-above most n b s h = rw (le-leb 48 b (omega arith), lt-leb b 57 h)
 
@@ -47,12 +44,12 @@ unfolding value_from
 grows n [] = omega arith
 grows n (b ∷ s) = omega (arith, grows (n * 10 + (b - 48)) s)
 
-neither : (a : Bool) (x y : Digits) → cond (a && false) x y ≡ y
+neither : (a : Bool) (x y : Option ℕ) → cond (a && false) x y ≡ y
 neither true x y = refl
 neither false x y = refl
 
 -- a number past the bound stays past it
-pub up-to-large : (most n : ℕ) (s : List ℕ) → most < n → up_to most n s ≡ Not
+pub up-to-large : (most n : ℕ) (s : List ℕ) → most < n → up_to most n s ≡ None
 unfolding up_to
 up-to-large most n s h = rw (lt-leb (value_from n s) most (omega (arith, grows n s))) (neither (are_digits s) _ _)
 
@@ -63,47 +60,47 @@ both true b e = e
 both false b e = absurd (false≢true e)
 
 module _ (most : ℕ) (s : List ℕ) where
-  pick : (t : Bool) (v n : ℕ) → cond t (Number v) Not ≡ Number n → (t ≡ true) × (v ≡ n)
+  pick : (t : Bool) (v n : ℕ) → cond t (Some v) None ≡ Some n → (t ≡ true) × (v ≡ n)
   pick true v n e = (refl, cc)
   pick false v n e = let z : true ≡ false = cc in absurd (true≢false z)
 
-  drop-it : (t : Bool) (v : ℕ) → cond t (Number v) Not ≡ Not → t ≡ false
+  drop-it : (t : Bool) (v : ℕ) → cond t (Some v) None ≡ None → t ≡ false
   drop-it true v e = let z : true ≡ false = cc in absurd (true≢false z)
   drop-it false v e = refl
 
   -- a number: the value of the bytes, within the bound
-  pub told : (n : ℕ) → digits_up_to most s ≡ Number n → (says_up_to most s ≡ true) × (value s ≡ n)
+  pub told : (n : ℕ) → digits_up_to most s ≡ Some n → (says_up_to most s ≡ true) × (value s ≡ n)
   unfolding digits_up_to
   told n e = pick (says_up_to most s) (value s) n e
 
-  pub told-bound : (n : ℕ) → digits_up_to most s ≡ Number n → n ≤ most
+  pub told-bound : (n : ℕ) → digits_up_to most s ≡ Some n → n ≤ most
   told-bound n e =
       let t = told n e in
       omega (arith, t.1, leb-true (value s) most (both (are_digits s) _ (both (ltb 0 (length s)) _ t.0)))
 
-  pub told_none : digits_up_to most s ≡ Not → says_up_to most s ≡ false
+  pub told_none : digits_up_to most s ≡ None → says_up_to most s ≡ false
   unfolding digits_up_to
   told_none e = drop-it (says_up_to most s) (value s) e
 
-pub positive-is : (s : List ℕ) (n : ℕ) → digits_up_to (2 ^ 63 - 1) s ≡ Number n → Is (pos n) ≡ positive_of s
+pub positive-is : (s : List ℕ) (n : ℕ) → digits_up_to (2 ^ 63 - 1) s ≡ Some n → Some (pos n) ≡ positive_of s
 unfolding positive_of
 positive-is s n e = let t = told (2 ^ 63 - 1) s n e in rw (t.0, t.1)
 
-pub positive-none : (s : List ℕ) → digits_up_to (2 ^ 63 - 1) s ≡ Not → NoValue ≡ positive_of s
+pub positive-none : (s : List ℕ) → digits_up_to (2 ^ 63 - 1) s ≡ None → None ≡ positive_of s
 unfolding positive_of
 positive-none s e = rw (told_none (2 ^ 63 - 1) s e)
 
-pub negative-is : (s : List ℕ) (n : ℕ) → digits_up_to (2 ^ 63) s ≡ Number n → Is (neg_ℤ (pos n)) ≡ negative_of s
+pub negative-is : (s : List ℕ) (n : ℕ) → digits_up_to (2 ^ 63) s ≡ Some n → Some (neg_ℤ (pos n)) ≡ negative_of s
 unfolding negative_of
 negative-is s n e = let t = told (2 ^ 63) s n e in rw (t.0, t.1)
 
-pub negative-none : (s : List ℕ) → digits_up_to (2 ^ 63) s ≡ Not → NoValue ≡ negative_of s
+pub negative-none : (s : List ℕ) → digits_up_to (2 ^ 63) s ≡ None → None ≡ negative_of s
 unfolding negative_of
 negative-none s e = rw (told_none (2 ^ 63) s e)
 
 -- ---- by the first byte
 
-pub value_none : (s : List ℕ) → length s ≡ 0 → NoValue ≡ value_of s
+pub value_none : (s : List ℕ) → length s ≡ 0 → None ≡ value_of s
 unfolding value_of
 value_none [] h = refl
 value_none (b ∷ s) h = absurd (omega arith)

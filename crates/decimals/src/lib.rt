@@ -1,98 +1,56 @@
 // Reading a value as a user writes it, as Rust's `i64::from_str` does: an optional sign, then digits. What is read is a definition of specs/.
 #![tactic(auto)]
 
-ghost use Rattle.std.specs.Prelude.{◌≡◌, ◌^◌, ◌≤◌, pos, neg_ℤ};
+ghost use Rattle.std.specs.Prelude.{◌≡◌, ◌≤◌};
 ghost use Rattle.decimals.specs.Value.{digits_up_to, positive_of, negative_of, value_of};
 
-// The number that a text says, or that it says none.
-#[derive(Clone, Copy)]
-pub enum Value {
-    Is(i64),
-    Not,
-}
-
-// The same, of digits without a sign.
-#[derive(Clone, Copy)]
-pub enum Digits {
-    Number(u64),
-    Not,
-}
-
 // One or more digits that say a number up to `most`. A digit is taken in only where the number stays within it, so no sum wraps.
-fn read_digits(s: &[u8], most: u64) -> Digits
+fn read_digits(s: &[u8], most: u64) -> Option<u64>
     requires { 9 ≤ most }
     ensures { result ≡ digits_up_to most s.now }
 {
-    if s.len() == 0 {
-        return Digits::Not;
+    if s.is_empty() {
+        return None;
     }
-    let mut n: u64 = 0;
-    let mut i = 0;
-    while i < s.len() {
-        let b = s[i];
-        if b < b'0' {
-            return Digits::Not;
+    let mut n = 0;
+    for b in s {
+        let d = u64::from(b.checked_sub(b'0')?);
+        if d > 9 {
+            return None;
         }
-        if b > b'9' {
-            return Digits::Not;
-        }
-        let d = (b - 48) as u64;
         if n > (most - d) / 10 {
-            return Digits::Not;
+            return None;
         }
         n = n * 10 + d;
-        i += 1;
     }
-    Digits::Number(n)
+    Some(n)
 }
 
 // What follows no sign, or `+`.
-fn read_positive(s: &[u8]) -> Value
+fn read_positive(s: &[u8]) -> Option<i64>
     ensures { result ≡ positive_of s.now }
 {
-    let digits = read_digits(s, 9223372036854775807);
-    match digits {
-        Digits::Number(n) => Value::Is(n as i64),
-        Digits::Not => Value::Not,
-    }
+    let n = read_digits(s, 9223372036854775807)?;
+    Some(n as i64)
 }
 
-// A number up to 2^63, negated. 2^63 itself is no i64, so the negation goes by one less.
-fn negated(n: u64) -> i64
-    requires { n ≤ 2 ^ 63 }
-    ensures { result ≡ neg_ℤ (pos n) }
-{
-    if n == 0 {
-        0
-    } else {
-        let less = (n - 1) as i64;
-        0 - less - 1
-    }
-}
-
-// What follows `-`.
-fn read_negative(s: &[u8]) -> Value
+// What follows `-`. 2^63 is no i64, but 0 less 2^63 is one.
+fn read_negative(s: &[u8]) -> Option<i64>
     ensures { result ≡ negative_of s.now }
 {
-    let digits = read_digits(s, 9223372036854775808);
-    match digits {
-        Digits::Number(n) => Value::Is(negated(n)),
-        Digits::Not => Value::Not,
-    }
+    let n = read_digits(s, 9223372036854775808)?;
+    0i64.checked_sub_unsigned(n)
 }
 
 // A value: any bytes.
-pub fn read_value(s: &[u8]) -> Value
+pub fn read_value(s: &[u8]) -> Option<i64>
     ensures { result ≡ value_of s.now }
 {
-    if s.len() == 0 {
-        return Value::Not;
-    }
-    let first = s[0];
+    let (&first, rest) = s.split_first()?;
     if first == b'-' {
-        read_negative(&s[1..])
+        read_negative(rest)
     } else if first == b'+' {
-        read_positive(&s[1..])
+        read_positive(rest)
     } else {
         read_positive(s)
     }

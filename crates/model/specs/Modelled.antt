@@ -1,6 +1,6 @@
 -- The whole model: how each step's tables are the next step's, from blank tables to the finished model.
 -- Assumes nothing.
-use Rattle.std.specs.Prelude.{◌≡◌, Bool, true, false, cond, ℕ, suc, ◌+◌, ◌-◌, ◌^◌, ◌≤◌, ◌<◌, eqb, ltb, ℤ, ◌+ℤ◌, get_or, replicate}
+use Rattle.std.specs.Prelude.{◌≡◌, Result, Ok, Err, Bool, true, false, cond, ℕ, suc, ◌+◌, ◌-◌, ◌^◌, ◌≤◌, ◌<◌, eqb, ltb, ℤ, ◌+ℤ◌, get_or, replicate}
 use Rattle.std.proofs.Math.Path.{refl, ap}
 use Rattle.std.proofs.Common.{sym, ◌∙◌, subst}
 use mathlib.Core.List.{List, [], ◌∷◌, map}
@@ -32,8 +32,7 @@ use Rattle.store_place.specs.Logged.{logged_all, settled, settled-logged_all}
 use Rattle.store_place.specs.Room.{Settleable}
 use Rattle.store_ising.specs.Turning.{Turning, turning}
 use Rattle.model_finish.specs.declared.Counted.{Counted}
-use Rattle.model.specs.declared.Modelled.{Modelled}
-use Rattle.model.specs.declared.Modelled.TheVariants.{Model as Made, Refused}
+use Rattle.model_fixes.specs.declared.Clash.{Clash}
 use Rattle.model_fixes.specs.Order.{fixes_of}
 use Rattle.model.specs.Steps.{placed_of, finished_of}
 use Rattle.model.specs.Demand.{fixes-are, placed-is, known_of}
@@ -47,10 +46,10 @@ use Rattle.model_fixes.specs.Fixing.{Holds, Fixable, Reading, fixes_by, fixes-by
 -- ---- how the whole ends
 
 -- the finished model in the tables, with the variable count; or the qubit that is to be fixed to two values
-abbrev pub ModelledAs : Form → Circuit → State → Modelled → List ℤ → List ℕ → List ℕ → List ℕ → List ℕ → List ℤ → Type 0
-ModelledAs form c s (Made x) l h r f ks ws =
+abbrev pub ModelledAs : Form → Circuit → State → Result Counted Clash → List ℤ → List ℕ → List ℕ → List ℕ → List ℕ → List ℤ → Type 0
+ModelledAs form c s (Ok x) l h r f ks ws =
     (clash (fixes_of c s) ≡ none) × Holds (pairs_of c) (finished_of form c s) x.totals l h r f ks ws × (x.variables ≡ variables (finished_of form c s))
-ModelledAs form c s (Refused q) l h r f ks ws = clash (fixes_of c s) ≡ at q.0
+ModelledAs form c s (Err e) l h r f ks ws = clash (fixes_of c s) ≡ at e.0.0
 
 -- ---- settling
 
@@ -269,7 +268,7 @@ module _ (b : List ℕ) (bads constraints : ℕ) (s : State) (good : Good b bads
     pub finishes : (form : Form) (x : Counted) {l' : List ℤ} {h' : List ℕ} {ws' : List ℤ} → length ws' ≡ length ws
         → ((f : List ℕ) → tables x.totals.offset l' h' r f ks ws' x.totals.count ≡ hold (in_form form (model_of (tables t.offset l h r f ks ws t.count))) (tables t.offset l h r f ks ws t.count))
         → x.variables ≡ energy.counted h' r → clash (fixes_of c s) ≡ none
-        → ModelledAs form c s (Made x) l' h' r f ks ws'
+        → ModelledAs form c s (Ok x) l' h' r f ks ws'
     unfolding finished_of
     finishes form x {l'} {h'} {ws'} lw step v clear =
         let is : tables x.totals.offset l' h' r f ks ws' x.totals.count ≡ full K (in_form form fixed_model) =

@@ -2,14 +2,4 @@
 // The rows are placed by the crate `model_place`, the pairs settled by `store_settle`, the qubits fixed by `model_fix_all`, the form turned by `model_finish`.
 #![tactic(auto)]
 
-use model_finish::Counted;
-use units::Qubit;
-
 pub mod model;
-
-// A finished model; or a qubit is to be fixed to two values.
-#[derive(Clone, Copy)]
-pub enum Modelled {
-    Model(Counted),
-    Refused(Qubit),
-}

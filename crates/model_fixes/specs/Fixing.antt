@@ -1,6 +1,6 @@
 -- Fixing: which qubit the k-th fix is of, what the code reads of it, and how the values that are entered one after the other and the pass over the pairs make the model of all fixes.
 -- Assumes nothing.
-use Rattle.std.specs.Prelude.{◌≡◌, Bool, true, false, not, cond, ℤ, get_or, set}
+use Rattle.std.specs.Prelude.{◌≡◌, Result, Ok, Err, Bool, true, false, not, cond, ℤ, get_or, set}
 use Rattle.std.proofs.Math.Path.{refl, sym, ap, subst}
 use Rattle.std.proofs.Common.{◌∙◌, arith, drop-cons, take-suc, lt-ltb, le-ltb}
 use mathlib.Core.List.{List, [], ◌∷◌, ◌++◌}
@@ -27,8 +27,7 @@ use Rattle.store.specs.declared.Totals.{Totals}
 use Rattle.store.specs.Tables.{Tables, tables, model_of, hold, Ready}
 use Rattle.store_sift.specs.Sifting.{model_by, MayEnter, Sifting, sifting}
 use Rattle.model_fixes.specs.declared.Fix.{Fix}
-use Rattle.model_fixes.specs.declared.Fixed.{Fixed}
-use Rattle.model_fixes.specs.declared.Fixed.TheVariants.{Done, Clash as Clashes}
+use Rattle.model_fixes.specs.declared.Clash.{Clash}
 use Rattle.model_fixes.specs.Order.{joined_qubit, fixes_of}
 use Rattle.model_rows.specs.Laid.{no_constraint}
 use Rattle.model_rows.specs.Rowed.{Has}
@@ -175,13 +174,13 @@ pub record Fixable (n k : ℕ) (fs : Fixes) (m : Model) : Type 0 where
   pub unfixed : (q : ℕ) → get_or m.fixed q 0 ≡ 0
 
 -- how fixing ends: with the first clash, or with all fixes made
-abbrev pub FixedAs : ℕ → Fixes → Model → Fixed → List ℤ → List ℕ → List ℕ → List ℕ → List ℕ → List ℤ → Type 0
-FixedAs k fs m (Done t) l h r f ks ws = (clash fs ≡ none) × Holds k (fix_all fs m) t l h r f ks ws
-FixedAs k fs m (Clashes q) l h r f ks ws = clash fs ≡ at q.0
+abbrev pub FixedAs : ℕ → Fixes → Model → Result Totals Clash → List ℤ → List ℕ → List ℕ → List ℕ → List ℕ → List ℤ → Type 0
+FixedAs k fs m (Ok t) l h r f ks ws = (clash fs ≡ none) × Holds k (fix_all fs m) t l h r f ks ws
+FixedAs k fs m (Err e) l h r f ks ws = clash fs ≡ at e.0.0
 
 -- by the answer that was found
-pub fixed-by : (k : ℕ) (fs : Fixes) (m : Model) {x y : Fixed} (l : List ℤ) (h r f ks : List ℕ) (ws : List ℤ) → x ≡ y → FixedAs k fs m x l h r f ks ws → FixedAs k fs m y l h r f ks ws
-fixed-by k fs m l h r f ks ws e = subst (λ (x : Fixed). FixedAs k fs m x l h r f ks ws) e
+pub fixed-by : (k : ℕ) (fs : Fixes) (m : Model) {x y : Result Totals Clash} (l : List ℤ) (h r f ks : List ℕ) (ws : List ℤ) → x ≡ y → FixedAs k fs m x l h r f ks ws → FixedAs k fs m y l h r f ks ws
+fixed-by k fs m l h r f ks ws e = subst (λ (x : Result Totals Clash). FixedAs k fs m x l h r f ks ws) e
 
 -- ---- entering the values
 
@@ -198,14 +197,14 @@ pub record Entered (fs : Fixes) (from : Totals) (l₀ : List ℤ) (h₀ r₀ f�
   pub is : (s : List Entry) → model_by t.offset l h r f s ≡ enter_all fs (model_by from.offset l₀ h₀ r₀ f₀ s)
 
 -- how entering ends: with the first clash, or with all values entered
-abbrev pub EnteredAs : Fixes → Totals → List ℤ → List ℕ → List ℕ → List ℕ → Fixed → List ℤ → List ℕ → List ℕ → List ℕ → Type 0
-EnteredAs fs from l₀ h₀ r₀ f₀ (Done t) l h r f = (clash fs ≡ none) × Entered fs from l₀ h₀ r₀ f₀ t l h r f
-EnteredAs fs from l₀ h₀ r₀ f₀ (Clashes q) l h r f = clash fs ≡ at q.0
+abbrev pub EnteredAs : Fixes → Totals → List ℤ → List ℕ → List ℕ → List ℕ → Result Totals Clash → List ℤ → List ℕ → List ℕ → List ℕ → Type 0
+EnteredAs fs from l₀ h₀ r₀ f₀ (Ok t) l h r f = (clash fs ≡ none) × Entered fs from l₀ h₀ r₀ f₀ t l h r f
+EnteredAs fs from l₀ h₀ r₀ f₀ (Err e) l h r f = clash fs ≡ at e.0.0
 
 -- by the answer that was found
-pub ended : (fs : Fixes) (from : Totals) (l₀ : List ℤ) (h₀ r₀ f₀ : List ℕ) {x y : Fixed} (l : List ℤ) (h r f : List ℕ) → x ≡ y
+pub ended : (fs : Fixes) (from : Totals) (l₀ : List ℤ) (h₀ r₀ f₀ : List ℕ) {x y : Result Totals Clash} (l : List ℤ) (h r f : List ℕ) → x ≡ y
     → EnteredAs fs from l₀ h₀ r₀ f₀ x l h r f → EnteredAs fs from l₀ h₀ r₀ f₀ y l h r f
-ended fs from l₀ h₀ r₀ f₀ l h r f e = subst (λ (x : Fixed). EnteredAs fs from l₀ h₀ r₀ f₀ x l h r f) e
+ended fs from l₀ h₀ r₀ f₀ l h r f e = subst (λ (x : Result Totals Clash). EnteredAs fs from l₀ h₀ r₀ f₀ x l h r f) e
 
 -- before a turn of the loop: the first j are entered, without a clash
 pub record Entering (fs : Fixes) (j : ℕ) (from : Totals) (l₀ : List ℤ) (h₀ r₀ f₀ : List ℕ) (t : Totals) (l : List ℤ) (h r f : List ℕ) : Type 0 where

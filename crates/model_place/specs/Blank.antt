@@ -1,6 +1,6 @@
 -- What placing all rows asks of the tables, and the laws of its turns: the tables hold the log of the rows of the names so far.
 -- Assumes nothing.
-use Rattle.std.specs.Prelude.{◌≡◌, refl, ℤ, nat_abs}
+use Rattle.std.specs.Prelude.{◌≡◌, refl, Option, Some, None, ℤ, nat_abs}
 use Rattle.std.proofs.Common.{sym, ap₂, ◌∙◌, subst, add-one}
 use Rattle.std.proofs.Math.Path.{ap}
 use mathlib.Core.List.{List, [], ◌∷◌, ◌++◌, append-nil}
@@ -29,7 +29,6 @@ use Rattle.store_place.specs.Wiring.{slots_of}
 use Rattle.store_place.specs.Logged.{logged_all}
 use Rattle.store_place.specs.Room.{Placing, filled_row, filled-or}
 use Rattle.model_rows.specs.declared.Placed.{Placed as Found}
-use Rattle.model_rows.specs.declared.Placed.TheVariants.{At, Nothing}
 use Rattle.model_rows.specs.Laid.{Good}
 use Rattle.model_rows.specs.Found.{found, placed_by, slots-wire, placed_one, placed-none}
 use Rattle.model_rows.specs.Rowed.{fin}
@@ -50,9 +49,9 @@ pub record Blank (n k : ℕ) (l : List ℤ) (h r ks : List ℕ) (ws : List ℤ) 
   pub weights : ws ≡ replicate k (pos 0)
 
 -- a row, or none, can be placed
-abbrev pub CanPlace : List ℤ → List ℕ → List ℕ → List ℕ → List ℤ → Totals → Found → Type 0
-CanPlace l h r ks ws t (At k w) = Placing l h r ks ws t (slots_of w) (row_of k)
-CanPlace l h r ks ws t Nothing = (length ws ≡ length ks) × (t.count ≤ length ks)
+abbrev pub CanPlace : List ℤ → List ℕ → List ℕ → List ℕ → List ℤ → Totals → Option Found → Type 0
+CanPlace l h r ks ws t (Some p) = Placing l h r ks ws t (slots_of p.wires) (row_of p.kind)
+CanPlace l h r ks ws t None = (length ws ≡ length ks) × (t.count ≤ length ks)
 
 -- the log of the names below q
 abbrev pub log_to : Circuit → State → ℕ → Model
@@ -184,7 +183,7 @@ module _ (b : List ℕ) (bads constraints : ℕ) (s : State) (good : Good b bads
             count = 0;
           }
 
-  module _ {q : ℕ} {t : Totals} {l : List ℤ} {h r ks : List ℕ} {ws : List ℤ} (inv : Logged c s q t l h r ks ws) (more : q < s.next) {p : Found} (e : p ≡ found (numbering.row_of c s q)) where
+  module _ {q : ℕ} {t : Totals} {l : List ℤ} {h r ks : List ℕ} {ws : List ℤ} (inv : Logged c s q t l h r ks ws) (more : q < s.next) {p : Option Found} (e : p ≡ found (numbering.row_of c s q)) where
     abbrev m : Model
     m = log_to c s q
 
@@ -241,7 +240,7 @@ module _ (b : List ℕ) (bads constraints : ℕ) (s : State) (good : Good b bads
 
     after : placed_by p m ≡ log_to c s (suc q)
     after =
-        ap (λ (f : Found). placed_by f m) e
+        ap (λ (f : Option Found). placed_by f m) e
         ∙ placed (numbering.row_of c s q) (one-row c s q)
         ∙ sym (logged_all-append (rows_from c s 2 (q - 2)) (numbering.row_of c s q) (empty n))
         ∙ ap (λ (rs : List Row). logged_all rs (empty n)) (sym (rows-to q inv.low more))

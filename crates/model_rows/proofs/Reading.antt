@@ -11,7 +11,8 @@ use Rattle.units.specs.Name.{qubit}
 use Rattle.penalty.specs.declared.Kind.TheVariants.{Or}
 use Rattle.circuit.specs.File.{field}
 use Rattle.store_place.specs.declared.Wires.{Wires}
-use Rattle.model_rows.specs.declared.Placed.TheVariants.{At}
+use Rattle.model_rows.specs.declared.Placed.{Placed}
+use Rattle.std.specs.Prelude.{Option, Some}
 use Rattle.model_rows.specs.Found.{join_at, found}
 
 or-wires : {p r : Qubit} {x y q : ℕ} → p.0 ≡ x → r.0 ≡ y
@@ -21,11 +22,14 @@ or-wires {q = q} e f i =
     let z : q ≡ q + 0 = omega arith in
     record { x1 = qubit (e i); x2 = qubit (f i); x3 = qubit (e i); z = qubit (z i); a = qubit q; k = qubit (z i) }
 
+abbrev or-row : Wires → Option Placed
+or-row w = Some (record { kind = Or; wires = w })
+
 module _ (b : List ℕ) (bads : ℕ) (qs : List ℕ) (j q : ℕ) {r : Qubit} (other : r.0 ≡ get_or qs (field b (bads + j) 0) 0 - 1) where
   pub first-join : {p : Qubit} → j ≡ 1 → p.0 ≡ get_or qs (field b bads 0) 0 - 1
-      → At Or (record { x1 = p; x2 = r; x3 = p; z = qubit q; a = qubit q; k = qubit q }) ≡ found (join_at b bads qs j q ∷ [])
-  first-join e f = rw (eq-eqb j 1 e) (ap (At Or) (or-wires f other))
+      → or-row (record { x1 = p; x2 = r; x3 = p; z = qubit q; a = qubit q; k = qubit q }) ≡ found (join_at b bads qs j q ∷ [])
+  first-join e f = rw (eq-eqb j 1 e) (ap or-row (or-wires f other))
 
   pub later-join : (j ≡ 1 → ⊥)
-      → At Or (record { x1 = qubit (q - 1); x2 = r; x3 = qubit (q - 1); z = qubit q; a = qubit q; k = qubit q }) ≡ found (join_at b bads qs j q ∷ [])
-  later-join n = rw (ne_eqb j 1 n) (ap (At Or) (or-wires refl other))
+      → or-row (record { x1 = qubit (q - 1); x2 = r; x3 = qubit (q - 1); z = qubit q; a = qubit q; k = qubit q }) ≡ found (join_at b bads qs j q ∷ [])
+  later-join n = rw (ne_eqb j 1 n) (ap or-row (or-wires refl other))

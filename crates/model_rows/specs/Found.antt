@@ -1,6 +1,6 @@
 -- The row of a name as the code hands it on: its kind, and the qubits at its slots; or none.
 -- Assumes nothing.
-use Rattle.std.specs.Prelude.{◌≡◌, refl, cond, List, [], ◌∷◌, ℕ, ◌+◌, ◌-◌, eqb, get_or}
+use Rattle.std.specs.Prelude.{◌≡◌, refl, Option, Some, None, cond, List, [], ◌∷◌, ℕ, ◌+◌, ◌-◌, eqb, get_or}
 use Rattle.std.proofs.Common.{ap}
 use Rattle.std.proofs.Math.Path.{fun_ext}
 use Rattle.units.specs.Name.{qubit}
@@ -19,28 +19,25 @@ use Rattle.numbering.specs.Numbered.{gate_row}
 use Rattle.store_place.specs.declared.Wires.{Wires}
 use Rattle.store_place.specs.Wiring.{slots_of}
 use Rattle.store_place.specs.Logged.{logged, logged_all}
-use Rattle.model_rows.specs.declared.Ruled.{Ruled}
-use Rattle.model_rows.specs.declared.Ruled.TheVariants.{By, Free}
 use Rattle.model_rows.specs.declared.Placed.{Placed}
-use Rattle.model_rows.specs.declared.Placed.TheVariants.{At, Nothing}
 
 -- ---- which row a gate has, and which of its fields are the row's operands
 
-abbrev pub ruled_by : GateKind → Ruled
-ruled_by ConstFalse = Free
-ruled_by ConstTrue = Free
-ruled_by InputBit = Free
-ruled_by Not = By row.Not
-ruled_by And = By row.And
-ruled_by Nand = By row.Nand
-ruled_by Or = By row.Or
-ruled_by Matriarch1 = By row.Matriarch1
-ruled_by CarryHalfAdder = Free
-ruled_by ResultHalfAdder = By row.Half
-ruled_by CarryFullAdder = Free
-ruled_by ResultFullAdder = By row.Full
-ruled_by Quotient = Free
-ruled_by Remainder = Free
+abbrev pub ruled_by : GateKind → Option Kind
+ruled_by ConstFalse = None
+ruled_by ConstTrue = None
+ruled_by InputBit = None
+ruled_by Not = Some row.Not
+ruled_by And = Some row.And
+ruled_by Nand = Some row.Nand
+ruled_by Or = Some row.Or
+ruled_by Matriarch1 = Some row.Matriarch1
+ruled_by CarryHalfAdder = None
+ruled_by ResultHalfAdder = Some row.Half
+ruled_by CarryFullAdder = None
+ruled_by ResultFullAdder = Some row.Full
+ruled_by Quotient = None
+ruled_by Remainder = None
 
 -- the fields of the second and the third operand; where there is none, the first once more
 abbrev pub second : Kind → ℕ
@@ -72,9 +69,9 @@ row_at b qs g q k =
       out = q - more k;
     }
 
-abbrev pub rows_by : List ℕ → List ℕ → ℕ → ℕ → Ruled → List Row
-rows_by b qs g q (By k) = row_at b qs g q k ∷ []
-rows_by b qs g q Free = []
+abbrev pub rows_by : List ℕ → List ℕ → ℕ → ℕ → Option Kind → List Row
+rows_by b qs g q (Some k) = row_at b qs g q k ∷ []
+rows_by b qs g q None = []
 
 -- the Or of join step j, whose result is q: bad states are the records from `bads` on
 abbrev pub join_at : List ℕ → ℕ → List ℕ → ℕ → ℕ → Row
@@ -114,14 +111,14 @@ wires_of r =
     }
 
 -- the row of a name, which has at most one
-abbrev pub found : List Row → Placed
-found [] = Nothing
-found (r ∷ rs) = At r.kind (wires_of r)
+abbrev pub found : List Row → Option Placed
+found [] = None
+found (r ∷ rs) = Some (record { kind = r.kind; wires = wires_of r })
 
 -- it is placed as a row of the log
-abbrev pub placed_by : Placed → Model → Model
-placed_by (At k w) m = logged (slots_of w) (row_of k) m
-placed_by Nothing m = m
+abbrev pub placed_by : Option Placed → Model → Model
+placed_by (Some p) m = logged (slots_of p.wires) (row_of p.kind) m
+placed_by None m = m
 
 pub slots-wire : (r : Row) → slots_of (wires_of r) ≡ wire r
 unfolding wire

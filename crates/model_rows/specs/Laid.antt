@@ -1,11 +1,10 @@
 -- Where the gates, the bad states and the constraints of a circuit stand in its bytes, and what the steps of the build ask of a numbered circuit.
 -- Assumes nothing.
-use Rattle.std.specs.Prelude.{◌≡◌, false, List, map, ℕ, ◌+◌, ◌*◌, ◌≤◌, ◌<◌, length, get_or}
+use Rattle.std.specs.Prelude.{◌≡◌, false, List, map, ℕ, ◌+◌, ◌*◌, ◌≤◌, ◌<◌, length, get_or, None}
 use Rattle.std.proofs.Math.Path.{ap}
 use Rattle.std.proofs.Common.{◌∙◌, arith}
 use Rattle.std.proofs.Math.ListN.{length-map}
 use Rattle.energy.specs.Circuit.{ConstFalse, Bad, Constraint}
-use Rattle.circuit.specs.declared.Found.TheVariants.{Nowhere}
 use Rattle.circuit.specs.File.{field, records, places_of, count_of}
 use Rattle.circuit.specs.Meaning.{gate_at, bad_at, constraint_at, circuit_of}
 use Rattle.circuit.specs.Form.{first_broken}
@@ -45,7 +44,7 @@ places-at a n k l e h = ap (λ (l : List ℕ). get_or l k 0) e ∙ get_or-range 
 whole : (b : List ℕ) (n : ℕ) → n < records b → 16 * (n + 1) ≤ length b
 whole b n h = omega arith
 
-module _ (b : List ℕ) (form : first_broken b ≡ Nowhere) where
+module _ (b : List ℕ) (form : first_broken b ≡ None) where
   gates-count : length (circuit_of b).gates ≡ count_of b 0 13
   unfolding circuit_of
   gates-count = length-map (places_of b 0 13) (gate_at b)

@@ -1,6 +1,6 @@
 -- What reading a name's row asks, and that the tables of a numbered circuit give it.
 -- Assumes nothing.
-use Rattle.std.specs.Prelude.{◌≡◌, ◌⊎◌, cond, List, [], ◌∷◌, ◌++◌, ℕ, zero, suc, ◌+◌, ◌-◌, ◌*◌, ◌≤◌, ◌<◌, eqb, length, get_or}
+use Rattle.std.specs.Prelude.{◌≡◌, ◌⊎◌, Option, Some, None, cond, List, [], ◌∷◌, ◌++◌, ℕ, zero, suc, ◌+◌, ◌-◌, ◌*◌, ◌≤◌, ◌<◌, eqb, length, get_or}
 use Rattle.std.proofs.Common.{sym, ◌∙◌, inl, inr, arith, eq-eqb, ne_eqb}
 use Rattle.std.proofs.Math.Path.{ap}
 use Rattle.std.proofs.Math.Decide.{dec_lt}
@@ -17,8 +17,6 @@ use Rattle.numbering.specs.State.{State, slot, origin, role}
 use Rattle.numbering.specs.Laws.{AllHave, Placed}
 use Rattle.numbering.specs.Numbered.{bad_gates, gate_row, row_of, first_join, joins_of}
 use Rattle.numbering.specs.Finished.{Finished, finished, gate-role}
-use Rattle.model_rows.specs.declared.Ruled.{Ruled}
-use Rattle.model_rows.specs.declared.Ruled.TheVariants.{By, Free}
 use Rattle.model_rows.specs.Found.{ruled_by, second, third, rows_by, join_at, gate-rows}
 use Rattle.model_rows.specs.Laid.{Good}
 
@@ -35,9 +33,9 @@ pub record Operands (b qubits : List ℕ) (g : ℕ) (k : Kind) : Type 0 where
   pub other : Has b qubits g (second k)
   pub last : Has b qubits g (third k)
 
-abbrev pub OperandsBy : List ℕ → List ℕ → ℕ → Ruled → Type 0
-OperandsBy b qs g (By k) = Operands b qs g k
-OperandsBy b qs g Free = Unit {0}
+abbrev pub OperandsBy : List ℕ → List ℕ → ℕ → Option Kind → Type 0
+OperandsBy b qs g (Some k) = Operands b qs g k
+OperandsBy b qs g None = Unit {0}
 
 pub record Ruling (b qubits : List ℕ) (g q : ℕ) : Type 0 where
   pub whole : 16 * (g + 1) ≤ length b

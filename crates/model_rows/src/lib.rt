@@ -1,7 +1,7 @@
 // The row of a name: its kind, and the qubits at its slots. What differs by kind lies here.
 #![tactic(auto)]
 
-ghost use Rattle.std.specs.Prelude.{[], ◌∷◌, ◌≡◌, ◌+◌, ◌-◌, ◌≤◌, ◌<◌, length, get_or};
+ghost use Rattle.std.specs.Prelude.{[], ◌∷◌, ◌≡◌, ◌-◌, ◌≤◌, ◌<◌, length, get_or};
 ghost use Rattle.energy.specs.Plain.{more, mid};
 ghost use Rattle.circuit.specs.File.{field, kind_at};
 ghost use Rattle.circuit.specs.Meaning.{circuit_of};
@@ -17,97 +17,77 @@ use penalty::Kind;
 use store_place::Wires;
 use units::Qubit;
 
-// The row of a gate: by the penalty of a kind, or none.
+// A circuit whose gates and joins have names: its bytes, the records of its first bad state and its first constraint, how many bad states and
+// constraints it has, the tables of names, and the next free name.
 #[derive(Clone, Copy)]
-pub enum Ruled {
-    By(Kind),
-    Free,
+pub struct Numbered<'a> {
+    pub circuit: &'a [u8],
+    pub bads: usize,
+    pub constraints: usize,
+    pub states: usize,
+    pub count: usize,
+    pub qubits: &'a [u16],
+    pub origins: &'a [u16],
+    pub roles: &'a [u8],
+    pub next: Qubit,
 }
 
-// A row that is to be placed, with the qubits at its slots; or none.
+// A row that is to be placed: its kind, and the qubits at its slots.
 #[derive(Clone, Copy)]
-pub enum Placed {
-    At(Kind, Wires),
-    Nothing,
+pub struct Placed {
+    pub kind: Kind,
+    pub wires: Wires,
 }
 
-// The row that a gate of each kind has.
-pub fn ruled_by(kind: GateKind) -> Ruled
+// The row that a gate of each kind has, if it has one.
+pub fn ruled_by(kind: GateKind) -> Option<Kind>
     ensures { result ≡ ruled_by kind }
 {
     match kind {
-        GateKind::ConstFalse => Ruled::Free,
-        GateKind::ConstTrue => Ruled::Free,
-        GateKind::InputBit => Ruled::Free,
-        GateKind::Not => Ruled::By(Kind::Not),
-        GateKind::And => Ruled::By(Kind::And),
-        GateKind::Nand => Ruled::By(Kind::Nand),
-        GateKind::Or => Ruled::By(Kind::Or),
-        GateKind::Matriarch1 => Ruled::By(Kind::Matriarch1),
-        GateKind::CarryHalfAdder => Ruled::Free,
-        GateKind::ResultHalfAdder => Ruled::By(Kind::Half),
-        GateKind::CarryFullAdder => Ruled::Free,
-        GateKind::ResultFullAdder => Ruled::By(Kind::Full),
-        GateKind::Quotient => Ruled::Free,
-        GateKind::Remainder => Ruled::Free,
+        GateKind::Not => Some(Kind::Not),
+        GateKind::And => Some(Kind::And),
+        GateKind::Nand => Some(Kind::Nand),
+        GateKind::Or => Some(Kind::Or),
+        GateKind::Matriarch1 => Some(Kind::Matriarch1),
+        GateKind::ResultHalfAdder => Some(Kind::Half),
+        GateKind::ResultFullAdder => Some(Kind::Full),
+        GateKind::ConstFalse
+        | GateKind::ConstTrue
+        | GateKind::InputBit
+        | GateKind::CarryHalfAdder
+        | GateKind::CarryFullAdder
+        | GateKind::Quotient
+        | GateKind::Remainder => None,
     }
 }
 
-// The fields of a row's second and third operand.
-pub fn second_of(kind: Kind) -> usize
-    ensures { (result ≡ second kind) × (result < 3) }
-{
-    match kind {
-        Kind::Not => 0,
-        Kind::And => 1,
-        Kind::Nand => 1,
-        Kind::Matriarch1 => 1,
-        Kind::Or => 1,
-        Kind::Half => 1,
-        Kind::Full => 1,
-    }
+// How a row of a kind is read: the fields of its second and third operand, how many names it takes beyond the first, and where its carry stands.
+#[derive(Clone, Copy)]
+struct Shape {
+    second: usize,
+    third: usize,
+    more: u16,
+    mid: u16,
 }
 
-pub fn third_of(kind: Kind) -> usize
-    ensures { (result ≡ third kind) × (result < 3) }
+fn shape_of(kind: Kind) -> Shape
+    ensures second { result.second ≡ second kind }
+    ensures third { result.third ≡ third kind }
+    ensures more { result.more ≡ more kind }
+    ensures mid { result.mid ≡ mid kind }
+    ensures bounds { (result.second < 3) × (result.third < 3) × (result.more ≤ 2) × (result.mid ≤ 1) }
 {
-    match kind {
-        Kind::Not => 0,
-        Kind::And => 0,
-        Kind::Nand => 0,
-        Kind::Matriarch1 => 0,
-        Kind::Or => 0,
-        Kind::Half => 0,
-        Kind::Full => 2,
-    }
-}
-
-// How many names a row takes beyond the first, and where its carry stands.
-pub fn more_of(kind: Kind) -> u16
-    ensures { (result ≡ more kind) × (result ≤ 2) }
-{
-    match kind {
-        Kind::Not => 0,
-        Kind::And => 0,
-        Kind::Nand => 0,
-        Kind::Matriarch1 => 0,
-        Kind::Or => 0,
-        Kind::Half => 2,
-        Kind::Full => 2,
-    }
-}
-
-pub fn mid_of(kind: Kind) -> u16
-    ensures { (result ≡ mid kind) × (result ≤ 1) }
-{
-    match kind {
-        Kind::Not => 0,
-        Kind::And => 0,
-        Kind::Nand => 0,
-        Kind::Matriarch1 => 0,
-        Kind::Or => 0,
-        Kind::Half => 1,
-        Kind::Full => 1,
+    let (second, third, more, mid) = match kind {
+        Kind::Not => (0, 0, 0, 0),
+        Kind::And | Kind::Nand | Kind::Matriarch1 | Kind::Or => (1, 0, 0, 0),
+        Kind::Half => (1, 0, 2, 1),
+        Kind::Full => (1, 2, 2, 1),
+    };
+    Shape {
+        second,
+        third,
+        more,
+        mid,
     }
 }
 
@@ -116,8 +96,7 @@ pub fn qubit_of(qubits: &[u16], g: usize) -> Qubit
     requires { (g < length qubits.now) × (1 ≤ get_or qubits.now g 0) }
     ensures { result.0 ≡ get_or qubits.now g 0 - 1 }
 {
-    let q = qubits[g];
-    Qubit(q - 1)
+    Qubit(qubits[g] - 1)
 }
 
 // The qubit of the gate that field `i` of record `n` names.
@@ -125,7 +104,7 @@ pub fn named_by(circuit: &[u8], qubits: &[u16], n: usize, i: usize) -> Qubit
     requires { Has circuit.now qubits.now n i }
     ensures { result.0 ≡ get_or qubits.now (field circuit.now n i) 0 - 1 }
 {
-    let g = field_at(circuit, n, i) as usize;
+    let g = usize::from(field_at(circuit, n, i));
     qubit_of(qubits, g)
 }
 
@@ -134,100 +113,74 @@ pub fn gate_wires(circuit: &[u8], qubits: &[u16], g: usize, q: u16, kind: Kind) 
     requires { Operands circuit.now qubits.now g kind × (2 ≤ q) }
     ensures { result ≡ wires_of (row_at circuit.now qubits.now g q kind) }
 {
+    let shape = shape_of(kind);
     let x1 = named_by(circuit, qubits, g, 0);
-    let i = second_of(kind);
-    let x2 = named_by(circuit, qubits, g, i);
-    let j = third_of(kind);
-    let x3 = named_by(circuit, qubits, g, j);
-    let up = more_of(kind);
-    let middle = mid_of(kind);
-    let out = q - up;
-    let carry = out + middle;
-    let result = out + up;
+    let x2 = named_by(circuit, qubits, g, shape.second);
+    let x3 = named_by(circuit, qubits, g, shape.third);
+    let out = q - shape.more;
     Wires {
         x1,
         x2,
         x3,
-        z: Qubit(result),
+        z: Qubit(q),
         a: Qubit(out),
-        k: Qubit(carry),
+        k: Qubit(out + shape.mid),
     }
 }
 
-// The row of gate `g`, whose result is `q`.
-pub fn gate_row(circuit: &[u8], qubits: &[u16], g: usize, q: u16) -> Placed
+// The row of gate `g`, whose result is `q`, if it has one.
+pub fn gate_row(circuit: &[u8], qubits: &[u16], g: usize, q: u16) -> Option<Placed>
     requires { Ruling circuit.now qubits.now g q }
     ensures { result ≡ found (rows_by circuit.now qubits.now g q (ruled_by (kind_at circuit.now g))) }
 {
-    let kind = kind_at(circuit, g);
-    let ruled = ruled_by(kind);
-    match ruled {
-        Ruled::By(k) => {
-            let w = gate_wires(circuit, qubits, g, q, k);
-            Placed::At(k, w)
-        }
-        Ruled::Free => Placed::Nothing,
-    }
+    let kind = ruled_by(kind_at(circuit, g))?;
+    let wires = gate_wires(circuit, qubits, g, q, kind);
+    Some(Placed { kind, wires })
 }
 
 // The Or of join step `j`, whose result is `q`: the first two bad states, and then the last join's result and the next bad state.
-pub fn join_row(circuit: &[u8], bads: usize, qubits: &[u16], j: usize, q: u16) -> Placed
+pub fn join_row(circuit: &[u8], bads: usize, qubits: &[u16], j: usize, q: u16) -> Option<Placed>
     requires { Joining circuit.now bads qubits.now j q }
     ensures { result ≡ found (join_at circuit.now bads qubits.now j q ∷ []) }
 {
-    let at = bads + j;
-    let x2 = named_by(circuit, qubits, at, 0);
+    let x1 = if j == 1 {
+        named_by(circuit, qubits, bads, 0)
+    } else {
+        Qubit(q - 1)
+    };
+    let x2 = named_by(circuit, qubits, bads + j, 0);
     let z = Qubit(q);
-    if j == 1 {
-        let x1 = named_by(circuit, qubits, bads, 0);
-        return Placed::At(
-            Kind::Or,
-            Wires {
-                x1,
-                x2,
-                x3: x1,
-                z,
-                a: z,
-                k: z,
-            },
-        );
-    }
-    let last = Qubit(q - 1);
-    Placed::At(
-        Kind::Or,
-        Wires {
-            x1: last,
+    Some(Placed {
+        kind: Kind::Or,
+        wires: Wires {
+            x1,
             x2,
-            x3: last,
+            x3: x1,
             z,
             a: z,
             k: z,
         },
-    )
+    })
 }
 
-// The row of the name `q`.
-pub fn row_at(
-    circuit: &[u8],
-    bads: usize,
-    constraints: usize,
-    qubits: &[u16],
-    origins: &[u16],
-    roles: &[u8],
-    next: Qubit,
-    q: usize,
-) -> Placed
-    requires { Good circuit.now bads constraints (mk qubits.now origins.now roles.now next.0) × (2 ≤ q) × (q < next.0) }
-    ensures { result ≡ found (row_of (circuit_of circuit.now) (mk qubits.now origins.now roles.now next.0) q) }
+// The row of the name `q`, if it has one.
+pub fn row_at(numbered: Numbered, q: usize) -> Option<Placed>
+    requires { Good numbered.circuit.now numbered.bads numbered.constraints (mk numbered.qubits.now numbered.origins.now numbered.roles.now numbered.next.0) × (2 ≤ q) × (q < numbered.next.0) }
+    ensures { result ≡ found (row_of (circuit_of numbered.entry.circuit.now) (mk numbered.entry.qubits.now numbered.entry.origins.now numbered.entry.roles.now numbered.entry.next.0) q) }
 {
-    let role = roles[q];
-    let from = origins[q] as usize;
+    let Numbered {
+        circuit,
+        bads,
+        qubits,
+        origins,
+        roles,
+        ..
+    } = numbered;
+    let from = usize::from(origins[q]);
     let name = q as u16;
-    if role == 1 {
-        return gate_row(circuit, qubits, from, name);
+    match roles[q] {
+        1 => gate_row(circuit, qubits, from, name),
+        4 => join_row(circuit, bads, qubits, from, name),
+        _ => None,
     }
-    if role == 4 {
-        return join_row(circuit, bads, qubits, from, name);
-    }
-    Placed::Nothing
 }

@@ -196,31 +196,24 @@ pub record Going (b l : List ℕ) (at : ℕ) (all : List ℕ) (s₀ : State) (re
   pub inside : at < length (gates_in b)
   pub below : AllBelow at rest
   pub same : visits (gates_in b) rest s ≡ visits (gates_in b) all s₀
-  pub qubits : length s.qubits ≡ length s₀.qubits
-  pub origins : length s.origins ≡ length s₀.origins
-  pub roles : length s.roles ≡ length s₀.roles
 
 pub going_start : {b l : List ℕ} {at : ℕ} {s₀ : State} (all : List ℕ) → Ready b l s₀ → at < length (gates_in b) → AllBelow at all → Going b l at all s₀ all s₀
-going_start all ready inside b = record { ready = ready; inside = inside; below = b; same = refl; qubits = refl; origins = refl; roles = refl }
+going_start all ready inside b = record { ready = ready; inside = inside; below = b; same = refl }
 
 -- x is the gate as the code read it, and m the measure
 pub loop-asked : {b l : List ℕ} {at m x y : ℕ} {all rest : List ℕ} {s₀ s : State} → Going b l at all s₀ (x ∷ rest) s → 3 * at ≡ m → y ≡ x
     → (3 * y + 2 < m) × (Ready b l s × (y < length (gates_in b)))
 loop-asked w e f = (omega (arith, w.below.0), (w.ready, omega (arith, w.below.0, w.inside)))
 
-pub going_on : {b l : List ℕ} {at x y : ℕ} {all rest : List ℕ} {s₀ s t : State} → Going b l at all s₀ (x ∷ rest) s → y ≡ x → t ≡ visit_of (gates_in b) y s
-    → length t.qubits ≡ length s.qubits → length t.origins ≡ length s.origins → length t.roles ≡ length s.roles → Going b l at all s₀ rest t
+pub going_on : {b l : List ℕ} {at x y : ℕ} {all rest : List ℕ} {s₀ s t : State} → Going b l at all s₀ (x ∷ rest) s → y ≡ x → t ≡ visit_of (gates_in b) y s → Going b l at all s₀ rest t
 unfolding each
-going_on {b} {x = x} {s = s} w f e q o r =
+going_on {b} {x = x} {s = s} w f e =
     let v = visit-visited (gates_in b) w.ready.ordered x (omega (arith, w.inside, w.below.0)) s w.ready.inv in
     record {
       ready = rw (e, f) (ready_with w.ready v.inv);
       inside = w.inside;
       below = w.below.1;
       same = rw (e, f) w.same;
-      qubits = q ∙ w.qubits;
-      origins = o ∙ w.origins;
-      roles = r ∙ w.roles;
     }
 
 pub going_end : {b l : List ℕ} {at : ℕ} {all : List ℕ} {s₀ s : State} → Going b l at all s₀ [] s → s ≡ visits (gates_in b) all s₀

@@ -1,5 +1,5 @@
 -- What the code reads of the bytes, and what its contracts ask. Assumes nothing: these are definitions.
-use Rattle.std.specs.Prelude.{◌≡◌, true, List, [], ◌∷◌, map, ℕ, zero, suc, ◌+◌, ◌*◌, ◌-◌, ◌≤◌, ◌<◌, length, get_or}
+use Rattle.std.specs.Prelude.{Result, Ok, Err, ◌≡◌, true, List, [], ◌∷◌, map, ℕ, zero, suc, ◌+◌, ◌*◌, ◌-◌, ◌≤◌, ◌<◌, length, get_or}
 use Rattle.energy.specs.Circuit.{Gate, ConstFalse, nodes_of, Before}
 use Rattle.circuit.specs.File.{field, kind_at}
 use Rattle.circuit.specs.Count.{range}
@@ -8,8 +8,8 @@ use Rattle.numbering.specs.State.{State, mk, slot}
 use Rattle.numbering.specs.Numbered.{roots, Outcome, refused, numbered}
 use Rattle.numbering.specs.Laws.{Inv}
 use Rattle.numbering.specs.Finished.{Formed}
-use Rattle.numbering.specs.declared.Ended.{Ended}
-use Rattle.numbering.specs.declared.Ended.TheVariants.{Refused, All}
+use Rattle.units.specs.declared.Qubit.{Qubit}
+use Rattle.numbering.specs.declared.HasQubit.{HasQubit}
 -- what a gate of each kind does
 pub use Rattle.numbering_gate.specs.Kinds.{arity, act_of, is_division, Room, CanFinish}
 unfoldable pub use Rattle.numbering_gate.specs.Kinds.{finish}
@@ -64,9 +64,14 @@ pub record Answer (g q : ℕ) (s t : State) : Type 0 where
 -- ---- the roots
 
 -- how the code's answer tells an outcome, with the tables
-abbrev pub outcome_of : Ended → List ℕ → List ℕ → List ℕ → Outcome
-outcome_of (Refused g n) q o r = refused g.0 (mk q o r n.0)
-outcome_of (All n) q o r = numbered (mk q o r n.0)
+abbrev pub outcome_of : Result Qubit HasQubit → List ℕ → List ℕ → List ℕ → Outcome
+outcome_of (Err had) q o r = refused had.gate.0 (mk q o r had.next.0)
+outcome_of (Ok n) q o r = numbered (mk q o r n.0)
+
+-- the same, where the tables have the next free name with them
+abbrev pub ended_of : {A : Type 0} → Result A HasQubit → State → Outcome
+ended_of (Err had) s = refused had.gate.0 (mk s.qubits s.origins s.roles had.next.0)
+ended_of (Ok x) s = numbered s
 
 -- The bad states are the records from `from` on, `bads` of them, and the constraints the `others` after them; both name a gate in their first field.
 pub record RootsAt (b : List ℕ) (from bads others : ℕ) : Type 0 where

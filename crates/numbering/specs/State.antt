@@ -1,7 +1,7 @@
 -- The tables that the numbering fills, as one value, and how they begin. Assumes nothing: these are definitions.
 use Rattle.std.specs.Prelude.{ℕ, ◌+◌, ◌*◌, length, replicate}
 use Rattle.energy.specs.Circuit.{Circuit}
-pub use Rattle.numbering_gate.specs.State.{State, mk, slot, qubit_of, origin, role}
+pub use Rattle.numbering_gate.specs.State.{State, mk, slot, qubit_of, origin, role, state_of, SameTables, same-start, same-then}
 
 -- 01's length of a table by name: "3G+B+1 qubits"
 abbrev pub names_of : Circuit → ℕ

@@ -3,20 +3,26 @@
 // What each function leaves in the tables is a definition of specs/, which follow 01 sentence by sentence.
 #![tactic(auto)]
 
+ghost use Rattle.std.specs.Prelude.{◌≡◌};
+ghost use Rattle.circuit.specs.declared.Refusal.TheVariants.{HasQubit};
+
+use circuit::Refusal;
 use units::{Gate, Qubit};
 
 pub mod walk;
 
-// A gate's qubit, and the next free name.
+// The gate of a bad state or a constraint that already has a qubit when its turn comes, and the next free name then.
 #[derive(Clone, Copy)]
-pub struct Given {
-    pub qubit: Qubit,
+pub struct HasQubit {
+    pub gate: Gate,
     pub next: Qubit,
 }
 
-// How a numbering ended: at a bad state or a constraint whose gate already has a qubit, or with all of them named. With it goes the next free name.
-#[derive(Clone, Copy)]
-pub enum Ended {
-    Refused(Gate, Qubit),
-    All(Qubit),
+// 8, at the gate.
+impl From<HasQubit> for Refusal {
+    ghost from_gives = { λ x r. r ≡ HasQubit x.gate };
+
+    fn from(x: HasQubit) -> Refusal {
+        Refusal::HasQubit(x.gate)
+    }
 }

@@ -1,4 +1,4 @@
-// What a gate of each kind does. Each kind has an arm of its own.
+// What a gate of each kind does.
 ghost use Rattle.std.specs.Prelude.{◌≡◌, ◌+◌, ◌*◌, ◌≤◌, length};
 ghost use Rattle.circuit.specs.File.{kind_at};
 ghost use Rattle.numbering_gate.specs.Kinds.{arity, act_of, is_division};
@@ -12,20 +12,18 @@ fn arity_of(kind: GateKind) -> usize
     ensures { result ≡ arity kind }
 {
     match kind {
-        GateKind::ConstFalse => 0,
-        GateKind::ConstTrue => 0,
-        GateKind::InputBit => 0,
-        GateKind::Not => 1,
-        GateKind::And => 2,
-        GateKind::Nand => 2,
-        GateKind::Or => 2,
-        GateKind::Matriarch1 => 2,
-        GateKind::CarryHalfAdder => 1,
-        GateKind::ResultHalfAdder => 2,
-        GateKind::CarryFullAdder => 1,
+        GateKind::ConstFalse
+        | GateKind::ConstTrue
+        | GateKind::InputBit
+        | GateKind::Quotient
+        | GateKind::Remainder => 0,
+        GateKind::Not | GateKind::CarryHalfAdder | GateKind::CarryFullAdder => 1,
+        GateKind::And
+        | GateKind::Nand
+        | GateKind::Or
+        | GateKind::Matriarch1
+        | GateKind::ResultHalfAdder => 2,
         GateKind::ResultFullAdder => 3,
-        GateKind::Quotient => 0,
-        GateKind::Remainder => 0,
     }
 }
 
@@ -35,18 +33,15 @@ fn act_of(kind: GateKind) -> Act
     match kind {
         GateKind::ConstFalse => Act::Low,
         GateKind::ConstTrue => Act::High,
-        GateKind::InputBit => Act::One,
-        GateKind::Not => Act::One,
-        GateKind::And => Act::One,
-        GateKind::Nand => Act::One,
-        GateKind::Or => Act::One,
-        GateKind::Matriarch1 => Act::One,
-        GateKind::CarryHalfAdder => Act::Share,
-        GateKind::ResultHalfAdder => Act::Three,
-        GateKind::CarryFullAdder => Act::Share,
-        GateKind::ResultFullAdder => Act::Three,
-        GateKind::Quotient => Act::Done,
-        GateKind::Remainder => Act::Done,
+        GateKind::InputBit
+        | GateKind::Not
+        | GateKind::And
+        | GateKind::Nand
+        | GateKind::Or
+        | GateKind::Matriarch1 => Act::One,
+        GateKind::ResultHalfAdder | GateKind::ResultFullAdder => Act::Three,
+        GateKind::CarryHalfAdder | GateKind::CarryFullAdder => Act::Share,
+        GateKind::Quotient | GateKind::Remainder => Act::Done,
     }
 }
 
@@ -54,14 +49,7 @@ fn act_of(kind: GateKind) -> Act
 pub fn is_division(act: Act) -> bool
     ensures { result ≡ is_division act }
 {
-    match act {
-        Act::Low => false,
-        Act::High => false,
-        Act::One => false,
-        Act::Three => false,
-        Act::Share => false,
-        Act::Done => true,
-    }
+    matches!(act, Act::Done)
 }
 
 // How many fields gate n visits before it takes its name.

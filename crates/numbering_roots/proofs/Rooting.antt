@@ -1,14 +1,14 @@
 -- The plain mathematics of the loops over the roots and over the join steps: what is left to do from here is what there was to do.
 --     Rooting     the roots `rest` are left, and the tables have come from s₀ to s
---     Joining     m join steps are left from step j on
+--     Joining     the join steps from j on are left
 -- b are the circuit's bytes and l the lists' starts.
 -- Assumes nothing.
 use mathlib.Core.Path.{◌≡◌, refl, sym, ◌∙◌}
 use mathlib.Core.List.{List, ◌∷◌}
 use Prim.Native.Nat.{ℕ, suc, ◌+◌, ◌*◌, ◌-◌, ◌≤◌, ◌<◌}
-use native.Mathlib.Nat.{sub-eq-zero_of_le, sub-zero}
+use native.Mathlib.Nat.{sub-eq-zero_of_le}
 use native.Mathlib.Omega.{arith}
-use lib.ListN.{length, set, length-set}
+use lib.ListN.{length}
 use Rattle.energy.specs.Circuit.{AllBelow}
 use Rattle.circuit.specs.File.{field}
 use Rattle.units.specs.declared.Qubit.{Qubit}
@@ -26,12 +26,9 @@ pub record Rooting (b l all : List ℕ) (s₀ : State) (rest : List ℕ) (s : St
   pub ready : Ready b l s
   pub below : AllBelow (length (gates_in b)) rest
   pub same : visit_roots (gates_in b) rest s ≡ visit_roots (gates_in b) all s₀
-  pub qubits : length s.qubits ≡ length s₀.qubits
-  pub origins : length s.origins ≡ length s₀.origins
-  pub roles : length s.roles ≡ length s₀.roles
 
 pub rooting-start : {b l : List ℕ} {s : State} (all : List ℕ) → Ready b l s → AllBelow (length (gates_in b)) all → Rooting b l all s all s
-rooting-start all ready below = record { ready = ready; below = below; same = refl; qubits = refl; origins = refl; roles = refl }
+rooting-start all ready below = record { ready = ready; below = below; same = refl }
 
 -- y is the gate as the code read it
 module _ {b l all : List ℕ} {s₀ s : State} {n to y : ℕ} (h : n < to) (w : Rooting b l all s₀ (gates_from b 0 n (to - n)) s) (e : y ≡ field b n 0) where
@@ -44,18 +41,13 @@ module _ {b l all : List ℕ} {s₀ s : State} {n to y : ℕ} (h : n < to) (w : 
   pub root-refused : (slot s y ≡ 0 → ⊥) → refused y s ≡ visit_roots (gates_in b) all s₀
   root-refused ne = sym (roots-had (gates_in b) turn.ready.ordered y (gates_from b 0 (n + 1) (to - (n + 1))) s ne) ∙ turn.same
 
-  pub root-on : {t : State} → slot s y ≡ 0 → t ≡ visit_of (gates_in b) y s
-      → length t.qubits ≡ length s.qubits → length t.origins ≡ length s.origins → length t.roles ≡ length s.roles
-      → Rooting b l all s₀ (gates_from b 0 (n + 1) (to - (n + 1))) t
-  root-on z f q o r =
+  pub root-on : {t : State} → slot s y ≡ 0 → t ≡ visit_of (gates_in b) y s → Rooting b l all s₀ (gates_from b 0 (n + 1) (to - (n + 1))) t
+  root-on z f =
       let v = visit-visited (gates_in b) turn.ready.ordered y turn.below.0 s turn.ready.inv in
       record {
         ready = rw f (ready_with turn.ready v.inv);
         below = turn.below.1;
         same = rw f (sym (roots-fresh (gates_in b) turn.ready.ordered y (gates_from b 0 (n + 1) (to - (n + 1))) s z) ∙ turn.same);
-        qubits = q ∙ turn.qubits;
-        origins = o ∙ turn.origins;
-        roles = r ∙ turn.roles;
       }
 
 pub root-end : {b l all : List ℕ} {s₀ s : State} {n to : ℕ} → to ≤ n → Rooting b l all s₀ (gates_from b 0 n (to - n)) s
@@ -63,40 +55,35 @@ pub root-end : {b l all : List ℕ} {s₀ s : State} {n to : ℕ} → to ≤ n �
 unfolding visit_roots
 root-end {b} {n = n} {to} h w = let z = rw (gates-done b 0 n to h) at w in z.same
 
--- ---- join steps: j of them are done
+-- ---- join steps: j is the next
 
-pub record Joining (o₀ r₀ : List ℕ) (n₀ steps : ℕ) (o r : List ℕ) (n j : ℕ) : Type 0 where
-  pub same : (q : List ℕ) → join_names (j + 1) (steps - j) (mk q o r n) ≡ join_names 1 steps (mk q o₀ r₀ n₀)
-  pub at : n ≡ n₀ + j
-  pub at_most : j ≤ steps
-  pub origins : length o ≡ length o₀
-  pub roles : length r ≡ length r₀
+pub record Joining (s₀ : State) (steps : ℕ) (s : State) (j : ℕ) : Type 0 where
+  pub some : 1 ≤ j
+  pub same : join_names j (suc steps - j) s ≡ join_names 1 steps s₀
+  pub at : s.next + 1 ≡ s₀.next + j
 
-pub joining-start : (o r : List ℕ) (n steps : ℕ) → Joining o r n steps o r n 0
-joining-start o r n steps =
-    record { same = λ q. rw (sub-zero steps); at = omega arith; at_most = omega arith; origins = refl; roles = refl }
+pub joining-start : (s : State) (steps : ℕ) → Joining s steps s 1
+joining-start s steps = let e : suc steps - 1 ≡ steps = omega arith in record { some = omega arith; same = rw e; at = omega arith }
 
-join_more : (j steps : ℕ) (s : State) → j < steps → join_names (j + 1) (steps - j) s ≡ join_names (j + 1 + 1) (steps - (j + 1)) (give (j + 1) 4 s)
+join_more : (j steps : ℕ) (s : State) → j ≤ steps → join_names j (suc steps - j) s ≡ join_names (j + 1) (suc steps - (j + 1)) (give j 4 s)
 unfolding join_names
-join_more j steps s h = let e : steps - j ≡ suc (steps - (j + 1)) = omega arith in rw e
+join_more j steps s h = let e : suc steps - j ≡ suc (suc steps - (j + 1)) = omega arith in rw e
 
-pub joining-on : {o₀ r₀ : List ℕ} {n₀ steps : ℕ} {o r : List ℕ} {n j : ℕ} → j < steps → Joining o₀ r₀ n₀ steps o r n j
-    → Joining o₀ r₀ n₀ steps (set o n (j + 1)) (set r n 4) (n + 1) (j + 1)
-joining-on {steps = steps} {o} {r} {n} {j} h w =
-    record {
-      same = λ q. sym (join_more j steps (mk q o r n) h) ∙ w.same q;
-      at = omega (arith, w.at);
-      at_most = omega arith;
-      origins = length-set o n (j + 1) ∙ w.origins;
-      roles = length-set r n 4 ∙ w.roles;
-    }
+pub joining-on : {s₀ s : State} {steps j : ℕ} → j ≤ steps → Joining s₀ steps s j → Joining s₀ steps (give j 4 s) (j + 1)
+joining-on {s = s} {steps} {j} h w = record { some = omega arith; same = sym (join_more j steps s h) ∙ w.same; at = omega (arith, w.at) }
 
-pub joining-end : {o₀ r₀ : List ℕ} {n₀ steps : ℕ} {o r : List ℕ} {n j : ℕ} → steps ≤ j → Joining o₀ r₀ n₀ steps o r n j
-    → (q : List ℕ) → mk q o r n ≡ join_names 1 steps (mk q o₀ r₀ n₀)
+pub joining-end : {s₀ s : State} {steps j : ℕ} → suc steps ≤ j → Joining s₀ steps s j → s ≡ join_names 1 steps s₀
 unfolding join_names
-joining-end h w q = rw (sub-eq-zero_of_le h) at (w.same q)
+joining-end h w = rw (sub-eq-zero_of_le h) at w.same
 
 -- ---- the whole numbering
+
+-- the lent tables are what they were left as
+pub back : {q o r q' o' r' : List ℕ} {n : ℕ} {x : Outcome} → q ≡ q' → o ≡ o' → r ≡ r' → numbered (mk q' o' r' n) ≡ x → numbered (mk q o r n) ≡ x
+back e f g h = rw (e, f, g) h
+
+pub back-refused : {q o r q' o' r' : List ℕ} {n g : ℕ} {x : Outcome} → q ≡ q' → o ≡ o' → r ≡ r' → refused g (mk q' o' r' n) ≡ x → refused g (mk q o r n) ≡ x
+back-refused e f g h = rw (e, f, g) h
 
 -- the tables (mk q o r 2) are clear, and `first` is the first new name, as the code has it
 module _ {b l : List ℕ} {from bads others : ℕ} {q o r : List ℕ} {first : Qubit} (p : Prepared b l from bads others)

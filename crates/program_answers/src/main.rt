@@ -8,8 +8,8 @@ mod reading;
 
 ghost use Rattle.std.specs.Prelude.{◌≤◌, length};
 
+use cases::Asked;
 use cases::heads::head_of;
-use cases::{Asked, Head};
 use cases_answer::put_whole;
 use program_input::read_full;
 use program_output::write_front;
@@ -18,7 +18,7 @@ use std::io;
 
 // The line that ends a stream out of form.
 fn write_malformed(rt: &HostRuntime) {
-    write_front(rt, b"malformed\n", 10);
+    write_front(rt, b"malformed\n");
 }
 
 // Reads and answers what follows a head. Answers whether the stream goes on: not where the answer cannot be written.
@@ -33,7 +33,7 @@ fn answer_case(
 {
     if read_case(rt, asked, input)? {
         let n = put_whole(number, asked, input, out);
-        return Ok(write_front(rt, out, n));
+        return Ok(write_front(rt, &out[..n]));
     }
     write_malformed(rt);
     Ok(false)
@@ -49,26 +49,21 @@ fn answer_next(rt: &HostRuntime, number: u64, input: &mut [u8], out: &mut [u8]) 
     if n == 0 {
         return Ok(false);
     }
-    let head = head_of(&bytes[..n]);
-    match head {
-        Head::Malformed => {
-            write_malformed(rt);
-            Ok(false)
-        }
-        Head::Case(asked) => answer_case(rt, number, asked, input, out),
-    }
+    let Some(asked) = head_of(&bytes[..n]) else {
+        write_malformed(rt);
+        return Ok(false);
+    };
+    answer_case(rt, number, asked, input, out)
 }
 
 // All cases of the stream. Nothing says that a stream ends, so the cases are counted.
 fn answer_all(rt: &HostRuntime, input: &mut [u8], out: &mut [u8]) -> io::Result<()>
     requires { 7837 ≤ length out.old }
 {
-    let mut number: u64 = 0;
-    while number < 18446744073709551615 {
+    for number in 0..u64::MAX {
         if !answer_next(rt, number, input, out)? {
-            return Ok(());
+            break;
         }
-        number += 1;
     }
     Ok(())
 }

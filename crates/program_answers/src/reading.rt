@@ -11,13 +11,11 @@ fn read_some(rt: &HostRuntime, buf: &mut [u8], n: usize) -> io::Result<usize>
     ensures { IfOk result (λ got. (got ≤ n) × (got ≤ length buf.new)) }
 {
     let mut stdin = rt.stdin();
-    if n < buf.len() {
-        return read_full(&mut stdin, &mut buf[..n]);
-    }
-    read_full(&mut stdin, buf)
+    let room = n.min(buf.len());
+    read_full(&mut stdin, &mut buf[..room])
 }
 
-// Passes over n bytes. Answers whether there were as many.
+// Passes over n bytes. Answers whether there were as many. Each read passes as many as it gives, so a `for` would have nothing to go over.
 fn skip(rt: &HostRuntime, buf: &mut [u8], n: usize) -> io::Result<bool> {
     let mut left = n;
     while 0 < left {
@@ -36,8 +34,7 @@ pub fn read_case(rt: &HostRuntime, asked: Asked, buf: &mut [u8]) -> io::Result<b
     ensures { IfOk result (λ whole. whole ≡ true → asked.length ≤ limit → asked.length + 8 * asked.values ≤ length buf.new) }
 {
     let length = asked.length as usize;
-    let values = asked.values as usize;
-    let n = length + 8 * values;
+    let n = length + 8 * asked.values as usize;
     if LIMIT < length {
         return skip(rt, buf, n);
     }

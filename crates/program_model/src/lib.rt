@@ -6,16 +6,14 @@ use program_input::read_full;
 use program_output::{write_front, write_refusal};
 use std::io;
 use text_dump::fresh::dump_fresh;
-use text_left::Dumped;
 use units::Form;
 
 // The model of a circuit, by way of a buffer.
 fn print_model(rt: &HostRuntime, circuit: &[u8], form: Form, text: &mut [u8]) {
-    let dumped = dump_fresh(circuit, form, text);
-    match dumped {
-        Dumped::Refused(r) => write_refusal(rt, r),
-        Dumped::Text(n) => {
-            write_front(rt, text, n);
+    match dump_fresh(circuit, form, text) {
+        Err(r) => write_refusal(rt, r),
+        Ok(n) => {
+            write_front(rt, &text[..n]);
         }
     }
 }

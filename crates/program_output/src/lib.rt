@@ -1,8 +1,6 @@
 // What the programs write to standard output. Where it cannot be written, a line on standard error says why.
 #![tactic(auto)]
 
-ghost use Rattle.std.specs.Prelude.{◌≤◌, length};
-
 use circuit::Refusal;
 use report::{print_refusal, print_run};
 use run_outcome::Run;
@@ -25,11 +23,9 @@ pub fn write_failure(rt: &HostRuntime, what: &[u8], error: Error) -> io::Result<
     eprintln!(rt; ": {said}")
 }
 
-// The first n bytes of a text. Answers whether they were written.
-pub fn write_front(rt: &HostRuntime, text: &[u8], n: usize) -> bool
-    requires { n ≤ length text.now }
-{
-    match rt.write_all(&text[..n]) {
+// A text. Answers whether it was written.
+pub fn write_front(rt: &HostRuntime, text: &[u8]) -> bool {
+    match rt.write_all(text) {
         Ok(()) => true,
         Err(error) => {
             // where standard error cannot be written either, nothing is left to say it on
@@ -43,12 +39,12 @@ pub fn write_front(rt: &HostRuntime, text: &[u8], n: usize) -> bool
 pub fn write_refusal(rt: &HostRuntime, r: Refusal) {
     let mut text = [0u8; 32];
     let n = print_refusal(r, &mut text);
-    write_front(rt, &text, n);
+    write_front(rt, &text[..n]);
 }
 
 // The lines of a run.
 pub fn write_run(rt: &HostRuntime, r: Run) {
     let mut text = [0u8; 1674];
     let n = print_run(r, &mut text);
-    write_front(rt, &text, n);
+    write_front(rt, &text[..n]);
 }

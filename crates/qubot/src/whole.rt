@@ -3,11 +3,13 @@ ghost use Rattle.std.specs.Prelude.{◌≡◌};
 ghost use Rattle.circuit.specs.Meaning.{circuit_of};
 ghost use Rattle.qubot_fill.specs.Tables.{filled_by};
 ghost use Rattle.qubot_left.specs.Made.{make};
-ghost use Rattle.qubot_left.specs.Built.{lent, in_tables};
+ghost use Rattle.qubot_left.specs.Built.{in_tables};
+ghost use Rattle.qubot_left.specs.Lent.{lent_in, SameTables};
 ghost use Rattle.qubot_left.specs.Parts.{Passed, Enough};
 
-use circuit::Counts;
+use circuit::{Counts, Refusal};
 use qubot_fill::{Filled, fill};
+use qubot_left::LentTables;
 use units::Form;
 
 // Bytes that passed the checks 1 to 7: the parts of the tables that 7 names are filled.
@@ -15,23 +17,25 @@ pub fn fill_tables(
     circuit: &[u8],
     form: Form,
     k: Counts,
-    qubits: &mut [u16],
-    origins: &mut [u16],
-    roles: &mut [u8],
-    linear: &mut [i64],
-    has_linear: &mut [u8],
-    has_row: &mut [u8],
-    fixed: &mut [u8],
-    keys: &mut [u32],
-    weights: &mut [i64],
-) -> Filled
-    requires { Passed circuit.now k × Enough k (lent qubits.old origins.old roles.old linear.old has_linear.old has_row.old fixed.old keys.old weights.old) }
-    ensures { (lent qubits.new origins.new roles.new linear.new has_linear.new has_row.new fixed.new keys.new weights.new, result) ≡ in_tables (lent qubits.old origins.old roles.old linear.old has_linear.old has_row.old fixed.old keys.old weights.old) (filled_by (circuit_of circuit.now) (make form (circuit_of circuit.now))) }
+    tables: &mut LentTables,
+) -> Result<Filled, Refusal>
+    requires { Passed circuit.now k × Enough k (lent_in tables.old) }
+    ensures left { (lent_in tables.new, result) ≡ in_tables (lent_in tables.old) (filled_by (circuit_of circuit.now) (make form (circuit_of circuit.now))) }
+    ensures same { SameTables tables.old tables.new }
 {
     let g = k.gates;
     let b = k.bad_states;
     let n = 3 * g + b + 1;
     let p = 10 * g + 3 * b;
+    let qubits = &mut *tables.qubits;
+    let origins = &mut *tables.origins;
+    let roles = &mut *tables.roles;
+    let linear = &mut *tables.linear;
+    let has_linear = &mut *tables.has_linear;
+    let has_row = &mut *tables.has_row;
+    let fixed = &mut *tables.fixed;
+    let keys = &mut *tables.keys;
+    let weights = &mut *tables.weights;
     fill(
         circuit,
         form,

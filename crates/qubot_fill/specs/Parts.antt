@@ -1,6 +1,6 @@
 -- The steps of a build on tables of exactly the lengths of 7, and how they make the whole.
 -- Assumes nothing.
-use Rattle.std.specs.Prelude.{◌≡◌, refl, true, false, List, [], ◌∷◌, ◌++◌, map, ℕ, zero, suc, ◌+◌, ◌-◌, ◌≤◌, ℤ, pos, length, replicate}
+use Rattle.std.specs.Prelude.{◌≡◌, refl, Result, Ok, Err, is_ok, true, false, List, [], ◌∷◌, ◌++◌, map, ℕ, zero, suc, ◌+◌, ◌-◌, ◌≤◌, ℤ, pos, length, replicate}
 use Rattle.std.proofs.Common.{sym, ◌∙◌, subst, true≢false, arith}
 use Rattle.std.proofs.Math.Path.{ap}
 use Rattle.std.proofs.lemmas.Bool.{false≢true}
@@ -25,14 +25,14 @@ use Rattle.store.specs.Tables as qubo
 use Rattle.model_rows.specs.Laid.{Good, laid}
 use Rattle.model_place.specs.Blank.{Blank, pairs_of}
 use Rattle.model_finish.specs.declared.Counted.{Counted}
-use Rattle.model.specs.declared.Modelled.TheVariants.{Model as Made}
 use Rattle.model_fixes.specs.Order.{fixes_of}
 use Rattle.model.specs.Steps.{finished_of}
 use Rattle.model.specs.Modelled.{ModelledAs}
 use Rattle.qubot_fill.specs.declared.Filled.{Filled}
-use Rattle.qubot_fill.specs.declared.Filled.TheVariants.{Already, Clashes, Model as Holds}
+use Rattle.circuit.specs.declared.Refusal.{Refusal}
+use Rattle.circuit.specs.declared.Refusal.TheVariants.{FixedTwice}
 use Rattle.qubot_fill.specs.Made.{after_clash, after_number, make}
-use Rattle.qubot_fill.specs.Tables.{Tables, lent, zeroed, padded, filled_by, or_zeroed, is_model}
+use Rattle.qubot_fill.specs.Tables.{Tables, lent, zeroed, padded, filled_by, or_zeroed}
 
 -- the bytes passed the checks, and these are their counts
 pub record Passed (b : List ℕ) (k : Counts) : Type 0 where
@@ -154,12 +154,12 @@ map-front f n s = go s ∙ ap (λ (x : ℕ). map f s ++ replicate (n - x) (f (0,
     go (e ∷ r) = ap (λ (x : List _). f e ∷ x) (go r)
 
 module _ (form : Form) (c : Circuit) (s : State) where
-  pub model-filled : {x : Counted} {l : List ℤ} {h w f ks : List ℕ} {ws : List ℤ} → ModelledAs form c s (Made x) l h w f ks ws
-      → or_zeroed c (lent s.qubits s.origins s.roles l h w f ks ws) (Holds (qubit s.next) x) ≡ filled_by c (after_clash form c s (clash (fixes_of c s)))
+  pub model-filled : {x : Counted} {l : List ℤ} {h w f ks : List ℕ} {ws : List ℤ} → ModelledAs form c s (Ok x) l h w f ks ws
+      → or_zeroed c (lent s.qubits s.origins s.roles l h w f ks ws) (Ok (record { next = qubit s.next; counted = x })) ≡ filled_by c (after_clash form c s (clash (fixes_of c s)))
   model-filled {x} {l} {h} {w} {f} {ks} {ws} (clear, holds, count) =
       (λ i. (
         lent s.qubits s.origins s.roles (holds.is i).linear (holds.is i).has_linear (holds.is i).has_row (holds.is i).fixed (keys i) (weights i),
-        Holds (qubit s.next) (record { totals = record { offset = (holds.is i).offset; count = (holds.is i).count }; variables = count i }),
+        Ok (record { next = qubit s.next; counted = record { totals = record { offset = (holds.is i).offset; count = (holds.is i).count }; variables = count i } }),
       ))
       ∙ ap (λ z. filled_by c (after_clash form c s z)) (sym clear)
     where
@@ -178,7 +178,7 @@ module _ (form : Form) (c : Circuit) (s : State) where
       weights : ws ≡ padded (pos 0) (pairs_of c) (map (λ (e : Entry). e.1) (finished_of form c s).pairs)
       weights = sym (seconds-zip ks ws even) ∙ ap (map (λ (e : Entry). e.1)) entries ∙ map-front (λ (e : Entry). e.1) (pairs_of c) (finished_of form c s).pairs
 
-  pub model-clashed : {q : ℕ} → clash (fixes_of c s) ≡ at q → (zeroed c, Clashes (qubit q)) ≡ filled_by c (after_clash form c s (clash (fixes_of c s)))
+  pub model-clashed : {q : ℕ} → clash (fixes_of c s) ≡ at q → (zeroed c, Err (FixedTwice (qubit q))) ≡ filled_by c (after_clash form c s (clash (fixes_of c s)))
   model-clashed e = ap (λ y. filled_by c (after_clash form c s y)) (sym e)
 
 -- the whole, from how the numbering ended
@@ -187,15 +187,13 @@ unfolding make
 whole_of form c e = ap (λ (x : Outcome). filled_by c (after_number form c x)) e
 
 -- where there is no model, the zeroed tables are the answer's
-pub zeroed-as : (c : Circuit) (t : Tables) (r : Filled) → is_model r ≡ false → {u : Tables} → u ≡ zeroed c → (u, r) ≡ or_zeroed c t r
-zeroed-as c t (Already g) e z = ap (λ (u : Tables). (u, Already g)) z
-zeroed-as c t (Clashes q) e z = ap (λ (u : Tables). (u, Clashes q)) z
-zeroed-as c t (Holds n x) e z = absurd (true≢false e)
+pub zeroed-as : (c : Circuit) (t : Tables) (r : Result Filled Refusal) → is_ok r ≡ false → {u : Tables} → u ≡ zeroed c → (u, r) ≡ or_zeroed c t r
+zeroed-as c t (Err r) e z = ap (λ (u : Tables). (u, Err r)) z
+zeroed-as c t (Ok x) e z = absurd (true≢false e)
 
-pub kept-as : (c : Circuit) (t : Tables) (r : Filled) → is_model r ≡ true → (t, r) ≡ or_zeroed c t r
-kept-as c t (Already g) e = absurd (false≢true e)
-kept-as c t (Clashes q) e = absurd (false≢true e)
-kept-as c t (Holds n x) e = refl
+pub kept-as : (c : Circuit) (t : Tables) (r : Result Filled Refusal) → is_ok r ≡ true → (t, r) ≡ or_zeroed c t r
+kept-as c t (Err r) e = absurd (false≢true e)
+kept-as c t (Ok x) e = refl
 
 pub blank_of : (c : Circuit) {l : List ℤ} {h w f ks : List ℕ} {ws : List ℤ} {l' : List ℤ} {h' w' ks' : List ℕ} {ws' : List ℤ} → ModelTables c l h w f ks ws
     → l' ≡ replicate (length l) (pos 0) → h' ≡ replicate (length h) 0 → w' ≡ replicate (length w) 0

@@ -1,6 +1,6 @@
 -- The nine lent tables, and what stands in them after a build, within the lengths of 7.
 -- Assumes nothing: these are definitions.
-use Rattle.std.specs.Prelude.{Bool, true, false, List, ◌++◌, map, ℕ, ◌-◌, ℤ, pos, length, replicate}
+use Rattle.std.specs.Prelude.{Result, Ok, Err, List, ◌++◌, map, ℕ, ◌-◌, ℤ, pos, length, replicate}
 use Rattle.units.specs.Name.{gate, qubit}
 use Rattle.energy.specs.Circuit.{Circuit}
 use Rattle.energy.specs.Model.{Entry, Model, variables}
@@ -8,7 +8,8 @@ use Rattle.numbering.specs.State.{State, names_of}
 use Rattle.model_place.specs.Blank.{pairs_of}
 use Rattle.model_finish.specs.declared.Counted.{Counted}
 use Rattle.qubot_fill.specs.declared.Filled.{Filled}
-use Rattle.qubot_fill.specs.declared.Filled.TheVariants.{Already, Clashes, Model as Holds}
+use Rattle.circuit.specs.declared.Refusal.{Refusal}
+use Rattle.circuit.specs.declared.Refusal.TheVariants.{HasQubit, FixedTwice}
 use Rattle.qubot_fill.specs.Made.{Made, already, clashes, model}
 
 -- The nine lent tables.
@@ -58,18 +59,12 @@ abbrev pub counts : Model → Counted
 counts m = record { totals = record { offset = m.offset; count = length m.pairs }; variables = variables m }
 
 -- the tables and the answer
-abbrev pub filled_by : Circuit → Made → Tables × Filled
-filled_by c (already g) = (zeroed c, Already (gate g))
-filled_by c (clashes q) = (zeroed c, Clashes (qubit q))
-filled_by c (model s m) = (filled c s m, Holds (qubit s.next) (counts m))
+abbrev pub filled_by : Circuit → Made → Tables × Result Filled Refusal
+filled_by c (already g) = (zeroed c, Err (HasQubit (gate g)))
+filled_by c (clashes q) = (zeroed c, Err (FixedTwice (qubit q)))
+filled_by c (model s m) = (filled c s m, Ok (record { next = qubit s.next; counted = counts m }))
 
 -- where there is no model, the tables are still to be zeroed
-abbrev pub or_zeroed : Circuit → Tables → Filled → Tables × Filled
-or_zeroed c t (Already g) = (zeroed c, Already g)
-or_zeroed c t (Clashes q) = (zeroed c, Clashes q)
-or_zeroed c t (Holds n x) = (t, Holds n x)
-
-abbrev pub is_model : Filled → Bool
-is_model (Already g) = false
-is_model (Clashes q) = false
-is_model (Holds n x) = true
+abbrev pub or_zeroed : Circuit → Tables → Result Filled Refusal → Tables × Result Filled Refusal
+or_zeroed c t (Err e) = (zeroed c, Err e)
+or_zeroed c t (Ok x) = (t, Ok x)

@@ -7,26 +7,22 @@ ghost use Rattle.qubot_fill.specs.Made.{make};
 ghost use Rattle.qubot_fill.specs.Tables.{lent, filled_by};
 ghost use Rattle.qubot_fill.specs.Parts.{Passed, NameTables, ModelTables};
 
-use circuit::Counts;
+use circuit::{Counts, Refusal};
 use model_finish::Counted;
-use parts::{fill_model, is_model, number_names};
+use parts::{fill_model, number_names};
 use tables::{clear_model, clear_names};
-use units::{Form, Gate, Qubit};
+use units::{Form, Qubit};
 
 pub mod parts;
 
-// What became of the tables.
+// The names and the model are in the tables: the next free name, and the offset, the pair count and the variable count.
 #[derive(Clone, Copy)]
-pub enum Filled {
-    // 8: the gate that already has a qubit when its turn comes
-    Already(Gate),
-    // 9: the qubit that is to be fixed to two values
-    Clashes(Qubit),
-    // the names and the model: the next free name, the offset, the pair count and the variable count
-    Model(Qubit, Counted),
+pub struct Filled {
+    pub next: Qubit,
+    pub counted: Counted,
 }
 
-// The names and the model, or zeros.
+// The names and the model; or refusal 8 or 9, and zeros.
 pub fn fill(
     circuit: &[u8],
     form: Form,
@@ -40,7 +36,7 @@ pub fn fill(
     fixed: &mut [u8],
     keys: &mut [u32],
     weights: &mut [i64],
-) -> Filled
+) -> Result<Filled, Refusal>
     requires { Passed circuit.now k × NameTables (circuit_of circuit.now) qubits.old origins.old roles.old × ModelTables (circuit_of circuit.now) linear.old present.old rows.old fixed.old keys.old weights.old }
     ensures { (lent qubits.new origins.new roles.new linear.new present.new rows.new fixed.new keys.new weights.new, result) ≡ filled_by (circuit_of circuit.now) (make form (circuit_of circuit.now)) }
 {
@@ -49,7 +45,7 @@ pub fn fill(
         circuit, form, k, ended, qubits, origins, roles, linear, present, rows, fixed, keys,
         weights,
     );
-    if is_model(filled) {
+    if filled.is_ok() {
         return filled;
     }
     clear_names(qubits, origins, roles);

@@ -4,18 +4,18 @@ ghost use Rattle.circuit.specs.Meaning.{circuit_of};
 ghost use Rattle.numbering.specs.Numbered.{number};
 ghost use Rattle.numbering.specs.Read.{outcome_of};
 ghost use Rattle.qubot_fill.specs.Made.{make};
-ghost use Rattle.qubot_fill.specs.Tables.{lent, filled_by, or_zeroed, is_model};
+ghost use Rattle.qubot_fill.specs.Tables.{lent, filled_by, or_zeroed};
 ghost use Rattle.qubot_fill.specs.Parts.{Passed, NameTables, ModelTables};
 
 use crate::Filled;
-use circuit::Counts;
+use circuit::{Counts, Refusal};
 use circuit_lists::list_starts;
-use model::Modelled;
 use model::model::make_model;
-use numbering::Ended;
+use model_rows::Numbered;
+use numbering::HasQubit;
 use numbering_roots::number;
 use tables::{clear_model, clear_names};
-use units::Form;
+use units::{Form, Qubit};
 
 // The names of all gates and joins, on cleared tables.
 pub fn number_names(
@@ -24,7 +24,7 @@ pub fn number_names(
     qubits: &mut [u16],
     origins: &mut [u16],
     roles: &mut [u8],
-) -> Ended
+) -> Result<Qubit, HasQubit>
     requires { Passed circuit.now k × NameTables (circuit_of circuit.now) qubits.old origins.old roles.old }
     ensures { outcome_of result qubits.new origins.new roles.new ≡ number (circuit_of circuit.now) }
 {
@@ -52,7 +52,7 @@ pub fn fill_model(
     circuit: &[u8],
     form: Form,
     k: Counts,
-    ended: Ended,
+    ended: Result<Qubit, HasQubit>,
     qubits: &[u16],
     origins: &[u16],
     roles: &[u8],
@@ -62,37 +62,24 @@ pub fn fill_model(
     fixed: &mut [u8],
     keys: &mut [u32],
     weights: &mut [i64],
-) -> Filled
+) -> Result<Filled, Refusal>
     requires { Passed circuit.now k × NameTables (circuit_of circuit.now) qubits.now origins.now roles.now × ModelTables (circuit_of circuit.now) linear.old present.old rows.old fixed.old keys.old weights.old × (outcome_of ended qubits.now origins.now roles.now ≡ number (circuit_of circuit.now)) }
     ensures { or_zeroed (circuit_of circuit.now) (lent qubits.now origins.now roles.now linear.new present.new rows.new fixed.new keys.new weights.new) result ≡ filled_by (circuit_of circuit.now) (make form (circuit_of circuit.now)) }
 {
-    match ended {
-        Ended::Refused(g, _) => Filled::Already(g),
-        Ended::All(next) => {
-            clear_model(linear, present, rows, fixed, keys, weights);
-            let from = k.gates + k.list_bits;
-            let at = from + k.bad_states;
-            let states = k.bad_states;
-            let count = k.constraints;
-            let made = make_model(
-                circuit, from, at, states, count, form, qubits, origins, roles, next, linear,
-                present, rows, fixed, keys, weights,
-            );
-            match made {
-                Modelled::Refused(q) => Filled::Clashes(q),
-                Modelled::Model(x) => Filled::Model(next, x),
-            }
-        }
-    }
-}
-
-// Whether there is a model.
-pub fn is_model(filled: Filled) -> bool
-    ensures { result ≡ is_model filled }
-{
-    match filled {
-        Filled::Already(_) => false,
-        Filled::Clashes(_) => false,
-        Filled::Model(_, _) => true,
-    }
+    let next = ended?;
+    clear_model(linear, present, rows, fixed, keys, weights);
+    let bads = k.gates + k.list_bits;
+    let numbered = Numbered {
+        circuit,
+        bads,
+        constraints: bads + k.bad_states,
+        states: k.bad_states,
+        count: k.constraints,
+        qubits,
+        origins,
+        roles,
+        next,
+    };
+    let counted = make_model(numbered, form, linear, present, rows, fixed, keys, weights)?;
+    Ok(Filled { next, counted })
 }

@@ -1,7 +1,7 @@
 -- A build that is not refused comes one way only: the bytes passed the checks, the circuit was numbered, no two fixes clash, and the finished model stands in the
 -- tables. What is known of that model.
 -- Assumes nothing.
-use Rattle.std.specs.Prelude.{◌≡◌, List, [], ◌∷◌, ◌++◌, ℕ, suc, ◌+◌, ◌*◌, ◌-◌, ◌^◌, ◌≤◌, ◌<◌, length, take, drop, replicate}
+use Rattle.std.specs.Prelude.{◌≡◌, List, [], ◌∷◌, ◌++◌, ℕ, suc, ◌+◌, ◌*◌, ◌-◌, ◌^◌, ◌≤◌, ◌<◌, length, take, drop, replicate, Err, Ok, Result}
 use Rattle.std.proofs.Math.Path.{refl, subst⁻¹}
 use Rattle.std.proofs.Common.{sym, ap, ◌∙◌, subst, arith, length-append}
 use Rattle.std.proofs.Math.Seq.{take-append_seam}
@@ -19,8 +19,6 @@ use Rattle.energy.specs.Clash.{Clash, none, at, clash}
 use Rattle.energy.specs.Finished.{Room, in_form}
 use Rattle.energy.proofs.Finished.{sized-finished}
 use Rattle.energy.specs.Finished as energy
-use Rattle.circuit.specs.declared.Checked.{Checked}
-use Rattle.circuit.specs.declared.Checked.TheVariants.{Accepted, Refused as Rejected}
 use Rattle.circuit.specs.declared.Refusal.{Refusal}
 use Rattle.circuit.specs.Check.{checked, counts_of}
 use Rattle.circuit.specs.Meaning.{circuit_of}
@@ -37,8 +35,6 @@ use Rattle.model_place.specs.Few.{total, rows_few}
 use Rattle.model_fixes.specs.Fixing.{fix_all-mass, fix_all-length}
 use Rattle.model.specs.Modelled.{placed-room, pairs-most}
 use Rattle.model.specs.Demand.{finished-is}
-use Rattle.qubot_left.specs.declared.Built.{Built}
-use Rattle.qubot_left.specs.declared.Built.TheVariants.{Done, Refused}
 use Rattle.qubot_left.specs.declared.Finished.{Finished}
 use Rattle.qubot_left.specs.Made.{after_clash, after_number, make}
 use Rattle.qubot_left.specs.Built.{Tables, gates_in, names_in, pairs_in, padded, filled, onto, within, answer, finished_by, in_tables, checked_by, built}
@@ -46,20 +42,20 @@ use Rattle.qubot_left.specs.Parts.{Passed, good}
 
 -- ---- the one way
 
-never : {x u : Tables} {r : Refusal} {f : Finished} → ◌≡◌ {A = Tables × Built} (x, Refused r) (u, Done f) → ⊥
+never : {x u : Tables} {r : Refusal} {f : Finished} → ◌≡◌ {A = Tables × Result Finished Refusal} (x, Err r) (u, Ok f) → ⊥
 never {x} {u} {r} {f} h =
-    let k : Refused r ≡ Done f = ap (λ (z : Tables × Built). z.1) h in
+    let k : ◌≡◌ {A = Result Finished Refusal} (Err r) (Ok f) = ap (λ (z : Tables × Result Finished Refusal). z.1) h in
     let z : ◌≡◌ {A = ℕ} 0 1 = cc in
     omega arith
 
-same_tables : {x u : Tables} {g f : Finished} → ◌≡◌ {A = Tables × Built} (x, Done g) (u, Done f) → x ≡ u
-same_tables h = ap (λ (z : Tables × Built). z.0) h
+same_tables : {x u : Tables} {g f : Finished} → ◌≡◌ {A = Tables × Result Finished Refusal} (x, Ok g) (u, Ok f) → x ≡ u
+same_tables h = ap (λ (z : Tables × Result Finished Refusal). z.0) h
 
-same_answer : {x u : Tables} {g f : Finished} → ◌≡◌ {A = Tables × Built} (x, Done g) (u, Done f) → g ≡ f
-same_answer {x} {u} {g} {f} h = let k : Done g ≡ Done f = ap (λ (z : Tables × Built). z.1) h in cc
+same_answer : {x u : Tables} {g f : Finished} → ◌≡◌ {A = Tables × Result Finished Refusal} (x, Ok g) (u, Ok f) → g ≡ f
+same_answer {x} {u} {g} {f} h = let k : ◌≡◌ {A = Result Finished Refusal} (Ok g) (Ok f) = ap (λ (z : Tables × Result Finished Refusal). z.1) h in cc
 
 -- What holds of the finished model of every numbering without a clash holds of what a build left that is not refused.
-pub by-done : (b : List ℕ) (form : Form) (t u : Tables) (f : Finished) (P : Tables → Finished → Type 0) → built b form t ≡ (u, Done f)
+pub by-done : (b : List ℕ) (form : Form) (t u : Tables) (f : Finished) (P : Tables → Finished → Type 0) → built b form t ≡ (u, Ok f)
     → (Sound b → (s : State) → number (circuit_of b) ≡ numbered s → clash (fixes_of (circuit_of b) s) ≡ none
     → P (within (filled (circuit_of b) s (finished_of form (circuit_of b) s)) t) (answer form (circuit_of b) s (finished_of form (circuit_of b) s)))
     → P u f
@@ -67,19 +63,19 @@ unfolding built make
 by-done b form t u f P e p = by-check (checked b (gates_in t) (names_in t) (pairs_in t)) refl e
   where
     by-clash : Sound b → (s : State) → number (circuit_of b) ≡ numbered s → (k : Clash) → clash (fixes_of (circuit_of b) s) ≡ k
-        → in_tables t (finished_by form (circuit_of b) (after_clash form (circuit_of b) s k)) ≡ (u, Done f) → P u f
+        → in_tables t (finished_by form (circuit_of b) (after_clash form (circuit_of b) s k)) ≡ (u, Ok f) → P u f
     by-clash sound s n (at q) k h = absurd (never h)
     by-clash sound s n none k h =
         subst (λ (x : Tables). P x f) (same_tables h)
         (subst (P (within (filled (circuit_of b) s (finished_of form (circuit_of b) s)) t)) (same_answer h) (p sound s n k))
 
-    by_number : Sound b → (o : Outcome) → number (circuit_of b) ≡ o → in_tables t (finished_by form (circuit_of b) (after_number form (circuit_of b) o)) ≡ (u, Done f) → P u f
+    by_number : Sound b → (o : Outcome) → number (circuit_of b) ≡ o → in_tables t (finished_by form (circuit_of b) (after_number form (circuit_of b) o)) ≡ (u, Ok f) → P u f
     by_number sound (refused g s) n h = absurd (never h)
     by_number sound (numbered s) n h = by-clash sound s n (clash (fixes_of (circuit_of b) s)) refl h
 
-    by-check : (x : Checked) → checked b (gates_in t) (names_in t) (pairs_in t) ≡ x → checked_by b form t x ≡ (u, Done f) → P u f
-    by-check (Rejected r) k h = absurd (never h)
-    by-check (Accepted n) k h = by_number (accepts b (gates_in t) (names_in t) (pairs_in t) n k).sound (number (circuit_of b)) refl h
+    by-check : (x : Result Counts Refusal) → checked b (gates_in t) (names_in t) (pairs_in t) ≡ x → checked_by b form t x ≡ (u, Ok f) → P u f
+    by-check (Err r) k h = absurd (never h)
+    by-check (Ok n) k h = by_number (accepts b (gates_in t) (names_in t) (pairs_in t) n k).sound (number (circuit_of b)) refl h
 
 -- a table that stands at the front of a longer one
 pub take-onto : {A : Type 0} (n : ℕ) (xs t : List A) → length xs ≡ n → take n (onto xs t) ≡ xs

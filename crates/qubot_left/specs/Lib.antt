@@ -1,5 +1,6 @@
 pub mod Made
 pub mod Built
+pub mod Lent
 pub mod Parts
 pub mod Left
 pub mod Proved

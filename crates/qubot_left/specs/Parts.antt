@@ -1,16 +1,13 @@
 -- A build on tables that may be longer than the lengths of 7, and how the checks decide.
 -- Assumes nothing.
-use Rattle.std.specs.Prelude.{◌≡◌, refl, List, ◌++◌, ℕ, ◌+◌, ◌*◌, ◌≤◌, length, take, drop}
+use Rattle.std.specs.Prelude.{◌≡◌, refl, Result, Ok, Err, List, ◌++◌, ℕ, ◌+◌, ◌*◌, ◌≤◌, length, take, drop}
 use Rattle.std.proofs.Common.{sym, ap₂, ◌∙◌, arith, length-take-le}
 use Rattle.std.proofs.Math.Path.{ap}
 use Rattle.units.specs.declared.Form.{Form}
 use Rattle.energy.specs.Circuit.{Circuit}
 use Rattle.energy.specs.Model.{variables}
 use Rattle.circuit.specs.declared.Counts.{Counts}
-use Rattle.circuit.specs.declared.Checked.{Checked}
-use Rattle.circuit.specs.declared.Checked.TheVariants.{Accepted, Refused as Rejected}
 use Rattle.circuit.specs.declared.Refusal.{Refusal}
-use Rattle.circuit.specs.declared.Refusal.TheVariants.{HasQubit, FixedTwice}
 use Rattle.circuit.specs.Check.{checked}
 use Rattle.circuit.specs.Meaning.{circuit_of}
 use Rattle.circuit.specs.Accepted.{CountsAre, Accepts}
@@ -18,26 +15,23 @@ use Rattle.circuit.proofs.Accepted.{accepts}
 use Rattle.numbering.specs.State.{names_of}
 use Rattle.model_place.specs.Blank.{pairs_of}
 use Rattle.qubot_fill.specs.declared.Filled.{Filled}
-use Rattle.qubot_fill.specs.declared.Filled.TheVariants.{Already, Clashes, Model}
 use Rattle.qubot_fill.specs.Made.{Made, already, clashes, model, make}
 use Rattle.qubot_fill.specs.Tables.{filled_by}
-use Rattle.qubot_left.specs.declared.Built.{Built}
-use Rattle.qubot_left.specs.declared.Built.TheVariants.{Done, Refused}
 use Rattle.qubot_left.specs.Built.{Tables, lent, gates_in, names_in, pairs_in, onto, finished_by, in_tables, checked_by, built}
+use Rattle.qubot_left.specs.declared.Finished.{Finished}
 -- what the steps on tables of exactly the lengths of 7 ask
 pub use Rattle.qubot_fill.specs.Parts.{Passed, NameTables, ModelTables, gates-are, list-bits-are, bads-are, constraints-are, counted, gates-few, bads-few, list-bits-few, is-prepared, good}
 
 -- ---- the answer
 
 -- what a build says of what became of the tables
-abbrev pub answer_of : Form → Counts → Filled → Built
-answer_of form k (Already g) = Refused (HasQubit g)
-answer_of form k (Clashes q) = Refused (FixedTwice q)
-answer_of form k (Model next x) =
-    Done (record { form = form; names = next.0; pairs = x.totals.count; offset = x.totals.offset; variables = x.variables; bads = k.bad_states; inputs = k.inputs })
+abbrev pub answer_of : Form → Counts → Result Filled Refusal → Result Finished Refusal
+answer_of form k (Err r) = Err r
+answer_of form k (Ok x) =
+    Ok (record { form = form; names = x.next.0; pairs = x.counted.totals.count; offset = x.counted.totals.offset; variables = x.counted.variables; bads = k.bad_states; inputs = k.inputs })
 
 -- the answer's part of a pair
-abbrev pub answered : Form → Counts → Tables × Filled → Tables × Built
+abbrev pub answered : Form → Counts → Tables × Result Filled Refusal → Tables × Result Finished Refusal
 answered form k p = (p.0, answer_of form k p.1)
 
 -- is what the definition says, where the counts are the circuit's
@@ -47,7 +41,7 @@ answers form k c h (clashes q) = refl
 answers form k c h (model s m) =
     λ i. (
       (filled_by c (model s m)).0,
-      Done (record { form = form; names = s.next; pairs = length m.pairs; offset = m.offset; variables = variables m; bads = h.bads i; inputs = h.inputs i }),
+      Ok (record { form = form; names = s.next; pairs = length m.pairs; offset = m.offset; variables = variables m; bads = h.bads i; inputs = h.inputs i }),
     )
 
 -- ---- tables that may be longer
@@ -155,18 +149,18 @@ fitted {k} t room {A} u r q o s l h w f y v i = (
 
 -- ---- the checks decide
 
-module _ (b : List ℕ) (form : Form) (t : Tables) {x : Checked} {n p : ℕ} (is : x ≡ checked b (gates_in t) n p) (en : n ≡ names_in t) (ep : p ≡ pairs_in t) where
+module _ (b : List ℕ) (form : Form) (t : Tables) {x : Result Counts Refusal} {n p : ℕ} (is : x ≡ checked b (gates_in t) n p) (en : n ≡ names_in t) (ep : p ≡ pairs_in t) where
   all-checked : checked b (gates_in t) (names_in t) (pairs_in t) ≡ x
   all-checked = sym (is ∙ ap₂ (checked b (gates_in t)) en ep)
 
-  pub accepted-as : {k : Counts} → x ≡ Accepted k → Accepts b (gates_in t) (names_in t) (pairs_in t) k
+  pub accepted-as : {k : Counts} → x ≡ Ok k → Accepts b (gates_in t) (names_in t) (pairs_in t) k
   accepted-as {k} e = accepts b (gates_in t) (names_in t) (pairs_in t) k (all-checked ∙ e)
 
-  pub refused_as : {r : Refusal} → x ≡ Rejected r → (t, Refused r) ≡ built b form t
+  pub refused_as : {r : Refusal} → x ≡ Err r → (t, Err r) ≡ built b form t
   unfolding built
   refused_as e = ap (checked_by b form t) (sym (all-checked ∙ e))
 
-  pub built-as : {k : Counts} {u : Tables} {r : Filled} → x ≡ Accepted k → (u, r) ≡ in_tables t (filled_by (circuit_of b) (make form (circuit_of b)))
+  pub built-as : {k : Counts} {u : Tables} {r : Result Filled Refusal} → x ≡ Ok k → (u, r) ≡ in_tables t (filled_by (circuit_of b) (make form (circuit_of b)))
       → (u, answer_of form k r) ≡ built b form t
   unfolding built
   built-as {k} e f =

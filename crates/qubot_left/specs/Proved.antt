@@ -1,7 +1,7 @@
 -- What a build that is not refused proves: demand 3, of the very tables that it left and of the answer that it gave.
 -- The circuit is read off the bytes; the names and the model are read off the tables and the answer, and off nothing else.
 -- Assumes nothing.
-use Rattle.std.specs.Prelude.{◌≡◌, refl, ◌↔◌, List, [], ◌∷◌, ◌++◌, map, ℕ, zero, suc, ◌<◌, ℤ, pos, length, get_or, take}
+use Rattle.std.specs.Prelude.{◌≡◌, refl, ◌↔◌, List, [], ◌∷◌, ◌++◌, map, ℕ, zero, suc, ◌<◌, ℤ, pos, length, get_or, take, Ok}
 use Rattle.std.proofs.Common.{sym, ap, ap₂, ◌∙◌, subst, append_assoc, arith}
 use Rattle.units.specs.declared.Form.{Form}
 use Rattle.units.specs.declared.Form.TheVariants.{Binary, Ising}
@@ -22,7 +22,6 @@ use Rattle.store_pairs.specs.Store.{zip}
 use Rattle.model_fixes.specs.Order.{fixes_of}
 use Rattle.model.specs.Steps.{finished_of}
 use Rattle.model.specs.Demand.{demand}
-use Rattle.qubot_left.specs.declared.Built.TheVariants.{Done}
 use Rattle.qubot_left.specs.declared.Finished.{Finished}
 use Rattle.qubot_left.specs.Built.{Tables, filled, within, answer, built}
 use Rattle.qubot_left.specs.Left.{by-done, take-onto, formed, small}
@@ -168,5 +167,5 @@ module _ (b : List ℕ) (form : Form) (t : Tables) (sound : Sound b) (s : State)
 -- ---- the theorem
 
 -- Theorem: whatever the bytes and the tables were, if a build answers `Done`, then all of this holds of the tables that it left and of its answer.
-pub build-proved : (b : List ℕ) (form : Form) (t u : Tables) (f : Finished) → built b form t ≡ (u, Done f) → ProvedOf b form u f
+pub build-proved : (b : List ℕ) (form : Form) (t u : Tables) (f : Finished) → built b form t ≡ (u, Ok f) → ProvedOf b form u f
 build-proved b form t u f e = by-done b form t u f (ProvedOf b form) e (of-model b form t)

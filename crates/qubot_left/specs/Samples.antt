@@ -1,7 +1,7 @@
 -- 01's starred samples of the build, as a single table under one statement, by computation over `built`: from the bytes of each circuit, on tables full of other
 -- numbers, to what stands in them afterwards.
 -- Assumes nothing.
-use Rattle.std.specs.Prelude.{◌≡◌, refl, cond, List, [], ◌∷◌, ◌++◌, map, ℕ, suc, ◌-◌, eqb, ℤ, pos, neg_ℤ, replicate, take}
+use Rattle.std.specs.Prelude.{◌≡◌, refl, cond, List, [], ◌∷◌, ◌++◌, map, ℕ, suc, ◌-◌, eqb, ℤ, pos, neg_ℤ, replicate, take, Err, Ok, Result}
 use Rattle.units.specs.declared.Form.{Form}
 use Rattle.units.specs.declared.Form.TheVariants.{Binary, Ising}
 use Rattle.penalty.specs.Rows.{rows, row_of}
@@ -24,10 +24,10 @@ use Rattle.numbering.specs.Numbered.{visit_roots, join_names, number, rows_from,
 use Rattle.store_pairs.specs.Store.{zip}
 use Rattle.model_fixes.specs.Order.{joined_qubit, fixes_of}
 use Rattle.model.specs.Steps.{placed_of, finished_of}
-use Rattle.qubot_left.specs.declared.Built.{Built}
-use Rattle.qubot_left.specs.declared.Built.TheVariants.{Done, Refused}
 use Rattle.qubot_left.specs.Made.{make}
 use Rattle.qubot_left.specs.Built.{Tables, lent, built}
+use Rattle.qubot_left.specs.declared.Finished.{Finished}
+use Rattle.circuit.specs.declared.Refusal.{Refusal}
 
 -- ---- how a sample is written
 
@@ -54,9 +54,9 @@ entries_from q [] ls = []
 entries_from q (h ∷ hs) [] = []
 entries_from q (h ∷ hs) (l ∷ ls) = cond (eqb h 1) ((q, l) ∷ []) [] ++ entries_from (suc q) hs ls
 
-abbrev said_by : Tables × Built → Says
-said_by (t, Refused r) = refusal (number_of r) (place_of r)
-said_by (t, Done f) =
+abbrev said_by : Tables × Result Finished Refusal → Says
+said_by (t, Err r) = refusal (number_of r) (place_of r)
+said_by (t, Ok f) =
     model (map (λ (n : ℕ). n - 1) t.qubits) (entries_from 0 t.has_linear t.linear) (map (λ (e : Entry). (low e.0, high e.0, e.1)) (take f.pairs (zip t.keys t.weights))) f.offset
     f.variables
 

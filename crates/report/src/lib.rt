@@ -2,39 +2,38 @@
 // and not stored, and no answer has more than 1,674 bytes.
 #![tactic(auto)]
 
-ghost use Rattle.std.specs.Prelude.{◌≡◌, ◌++◌, ◌≤◌, take};
+ghost use Rattle.std.specs.Prelude.{◌++◌, ◌≤◌, length};
 ghost use Rattle.text.specs.Paste.{Printed};
 ghost use Rattle.text.specs.Text.{lines};
 ghost use Rattle.report_lines.specs.Report.{refusal_line, energy_line, bad_line, hit_line, run_lines};
 
 use circuit::Refusal;
-use circuit::answers::{number_of, place_of};
 use report_lines::{put_bads, put_energy, put_hit};
-use run_outcome::{Outcome, Run};
+use run_outcome::Run;
 use text::write::{put, put_bytes, put_decimal, put_lead};
-use units::{Energy, lesser};
+use units::Energy;
 
 // The line of a refusal.
 pub fn print_refusal(r: Refusal, buf: &mut [u8]) -> usize
     ensures printed { Printed (refusal_line r) buf.old 0 buf.new result }
     ensures upper_bound { result ≤ 32 }
 {
-    let number = number_of(r);
-    let place = place_of(r);
+    let number = r.number();
+    let place = r.place();
     let first = put_bytes(buf, 0, b"refused ");
     let second = put_lead(buf, first, number as u64);
     let end = put_decimal(buf, second, place as u64);
     put(buf, end, b'\n')
 }
 
-// The lines of a run that was made, with the first n of the nids.
-fn print_ran(e: Energy, hit: bool, nids: &[u64; 64], n: usize, buf: &mut [u8]) -> usize
-    requires { n ≤ 64 }
-    ensures printed { Printed (energy_line e ++ (lines bad_line (take n nids.now) ++ hit_line hit)) buf.old 0 buf.new result }
+// The lines of a run that was made, with the nids of its true bad states.
+fn print_ran(e: Energy, hit: bool, nids: &[u64], buf: &mut [u8]) -> usize
+    requires { length nids.now ≤ 64 }
+    ensures printed { Printed (energy_line e ++ (lines bad_line nids.now ++ hit_line hit)) buf.old 0 buf.new result }
     ensures upper_bound { result ≤ 1674 }
 {
     let first = put_energy(buf, 0, e);
-    let last = put_bads(buf, first, nids, n);
+    let last = put_bads(buf, first, nids);
     put_hit(buf, last, hit)
 }
 
@@ -43,11 +42,9 @@ pub fn print_run(r: Run, buf: &mut [u8]) -> usize
     ensures printed { Printed (run_lines r) buf.old 0 buf.new result }
     ensures upper_bound { result ≤ 1674 }
 {
-    let outcome = r.outcome;
-    let nids = r.nids;
-    let count = lesser(r.count, 64);
-    match outcome {
-        Outcome::Ran(e, hit) => print_ran(e, hit, &nids, count, buf),
-        Outcome::Refused(x) => print_refusal(x, buf),
+    let count = r.count.min(64);
+    match r.outcome {
+        Ok((e, hit)) => print_ran(e, hit, &r.nids[..count], buf),
+        Err(x) => print_refusal(x, buf),
     }
 }

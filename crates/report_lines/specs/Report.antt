@@ -1,7 +1,7 @@
 -- The lines of an answer, as a user reads them: of a run the energy with its form and its count of halves, each true bad state's nid, and the verdict; of a refusal
 -- its number and place.
 -- Assumes nothing.
-use Rattle.std.specs.Prelude.{◌≡◌, refl, Bool, true, false, List, [], ◌∷◌, ◌++◌, ℕ, min, ℤ, pos, negsuc, take, replicate}
+use Rattle.std.specs.Prelude.{◌≡◌, refl, Bool, true, false, List, [], ◌∷◌, ◌++◌, ℕ, min, ℤ, pos, negsuc, take, replicate, Err, Ok, Result}
 use Rattle.units.specs.declared.Form.{Form}
 use Rattle.units.specs.declared.Form.TheVariants.{Binary, Ising}
 use Rattle.units.specs.declared.Energy.{Energy}
@@ -9,8 +9,6 @@ use Rattle.units.specs.Halves.{energy_of}
 use Rattle.circuit.specs.declared.Refusal.{Refusal}
 use Rattle.circuit.specs.declared.Refusal.TheVariants.{NotUsedUp}
 use Rattle.circuit.specs.Refusals.{number_of, place_of}
-use Rattle.run_outcome.specs.declared.Outcome.{Outcome}
-use Rattle.run_outcome.specs.declared.Outcome.TheVariants.{Ran, Refused}
 use Rattle.run_outcome.specs.declared.Run.{Run}
 use Rattle.text.specs.Bytes.{bytes}
 use Rattle.text.specs.Decimal.{decimal, digits}
@@ -41,9 +39,9 @@ hit_line true = bytes "hit yes\n"
 hit_line false = bytes "hit no\n"
 
 -- a run, by its outcome and the nids of its true bad states
-abbrev pub outcome_lines : Outcome → List ℕ → List ℕ
-outcome_lines (Ran e hit) nids = energy_line e ++ (lines bad_line nids ++ hit_line hit)
-outcome_lines (Refused r) nids = refusal_line r
+abbrev pub outcome_lines : Result (Energy × Bool) Refusal → List ℕ → List ℕ
+outcome_lines (Ok (e, hit)) nids = energy_line e ++ (lines bad_line nids ++ hit_line hit)
+outcome_lines (Err r) nids = refusal_line r
 
 -- "true bad states are listed in file order .. (at most 64)": the first `count` of the answer's 64 nids
 unfoldable pub run_lines : Run → List ℕ
@@ -53,7 +51,7 @@ run_lines r = outcome_lines r.outcome (take (min r.count 64) r.nids)
 
 -- a run that was made, with one true bad state
 one : ℤ → Form → Bool → ℕ → Run
-one h f hit nid = record { outcome = Ran (energy_of h f) hit; nids = nid ∷ replicate 63 0; count = 1 }
+one h f hit nid = record { outcome = Ok (energy_of h f, hit); nids = nid ∷ replicate 63 0; count = 1 }
 
 samples : (run_lines (one (pos 12) Binary false 30) ≡ bytes "energy 6 binary halves 12\nbad 30\nhit no\n")
     × (run_lines (one (pos 0) Ising true 30) ≡ bytes "energy 0 ising halves 0\nbad 30\nhit yes\n")

@@ -1,7 +1,7 @@
 // The lines of a run, each into a lent buffer. What a line says is a definition of specs/; a byte past the buffer's end is counted and not stored.
 #![tactic(auto)]
 
-ghost use Rattle.std.specs.Prelude.{◌+◌, ◌*◌, ◌^◌, ◌≤◌, ◌<◌, length, take};
+ghost use Rattle.std.specs.Prelude.{◌+◌, ◌*◌, ◌^◌, ◌≤◌, ◌<◌, length};
 ghost use Rattle.text.specs.Paste.{Printed, Room};
 ghost use Rattle.text.specs.Text.{lines};
 ghost use Rattle.report_lines.specs.Report.{form_word, energy_line, bad_line, hit_line};
@@ -26,14 +26,12 @@ pub fn put_energy(buf: &mut [u8], at: usize, e: Energy) -> usize
     ensures printed { Printed (energy_line e) buf.old at buf.new result }
     ensures upper_bound { result ≤ at + 66 }
 {
-    let halves = e.halves;
-    let form = e.form;
     let energy = put_bytes(buf, at, b"energy ");
-    let gap = put_halves(buf, energy, halves);
+    let gap = put_halves(buf, energy, e.halves);
     let word = put(buf, gap, b' ');
-    let count = put_form(buf, word, form);
+    let count = put_form(buf, word, e.form);
     let number = put_bytes(buf, count, b" halves ");
-    let end = put_signed(buf, number, halves);
+    let end = put_signed(buf, number, e.halves);
     put(buf, end, b'\n')
 }
 
@@ -48,18 +46,15 @@ fn put_bad(buf: &mut [u8], at: usize, nid: u64) -> usize
     put(buf, end, b'\n')
 }
 
-// The first n of them, in their order.
-pub fn put_bads(buf: &mut [u8], at: usize, nids: &[u64], n: usize) -> usize
-    requires { (n ≤ length nids.now) × (at + 25 * n < 2 ^ 64) }
-    ensures printed { Printed (lines bad_line (take n nids.now)) buf.old at buf.new result }
-    ensures upper_bound { result ≤ at + 25 * n }
+// All of them, in their order.
+pub fn put_bads(buf: &mut [u8], at: usize, nids: &[u64]) -> usize
+    requires { at + 25 * length nids.now < 2 ^ 64 }
+    ensures printed { Printed (lines bad_line nids.now) buf.old at buf.new result }
+    ensures upper_bound { result ≤ at + 25 * length nids.now }
 {
     let mut next = at;
-    let mut k = 0;
-    while k < n {
-        let nid = nids[k];
-        next = put_bad(buf, next, nid);
-        k += 1;
+    for nid in nids {
+        next = put_bad(buf, next, *nid);
     }
     next
 }

@@ -5,6 +5,7 @@ ghost use Rattle.run_meaning.specs.Ran.{done};
 ghost use Rattle.run_left.specs.Evaluated.{evaluated};
 
 use crate::run;
+use qubot_left::LentTables;
 use run_outcome::Run;
 use units::Form;
 
@@ -21,19 +22,16 @@ pub fn run_fresh(circuit: &[u8], form: Form, inputs: &[i64], values: &mut [u8]) 
     let mut fixed = [0u8; 3065];
     let mut keys = [0u32; 10192];
     let mut weights = [0i64; 10192];
-    run(
-        circuit,
-        form,
-        &mut qubits,
-        &mut origins,
-        &mut roles,
-        &mut linear,
-        &mut has_linear,
-        &mut has_row,
-        &mut fixed,
-        &mut keys,
-        &mut weights,
-        values,
-        inputs,
-    )
+    let mut tables = LentTables {
+        qubits: &mut qubits,
+        origins: &mut origins,
+        roles: &mut roles,
+        linear: &mut linear,
+        has_linear: &mut has_linear,
+        has_row: &mut has_row,
+        fixed: &mut fixed,
+        keys: &mut keys,
+        weights: &mut weights,
+    };
+    run(circuit, form, &mut tables, values, inputs)
 }

@@ -2,12 +2,13 @@
 #![tactic(auto)]
 
 ghost use Rattle.std.specs.Prelude.{◌≡◌};
-ghost use Rattle.qubot_left.specs.Built.{lent};
+ghost use Rattle.qubot_left.specs.Lent.{lent_in, SameTables};
 ghost use Rattle.run_meaning.specs.Ran.{done};
 ghost use Rattle.run_left.specs.Evaluated.{evaluated};
 
 use qubot::build;
-use run_left::run_built;
+use qubot_left::LentTables;
+use run_left::{LeftTables, run_built};
 use run_outcome::Run;
 use units::Form;
 
@@ -17,25 +18,33 @@ pub mod fresh;
 pub fn run(
     circuit: &[u8],
     form: Form,
-    qubits: &mut [u16],
-    origins: &mut [u16],
-    roles: &mut [u8],
-    linear: &mut [i64],
-    has_linear: &mut [u8],
-    has_row: &mut [u8],
-    fixed: &mut [u8],
-    keys: &mut [u32],
-    weights: &mut [i64],
+    tables: &mut LentTables,
     values: &mut [u8],
     inputs: &[i64],
 ) -> Run
-    ensures { (lent qubits.new origins.new roles.new linear.new has_linear.new has_row.new fixed.new keys.new weights.new, done result values.new) ≡ evaluated circuit.now form (lent qubits.old origins.old roles.old linear.old has_linear.old has_row.old fixed.old keys.old weights.old) inputs.now values.old }
+    ensures left { (lent_in tables.new, done result values.new) ≡ evaluated circuit.now form (lent_in tables.old) inputs.now values.old }
+    ensures same { SameTables tables.old tables.new }
 {
-    let built = build(
-        circuit, form, qubits, origins, roles, linear, has_linear, has_row, fixed, keys, weights,
-    );
-    run_built(
-        circuit, built, qubits, origins, roles, linear, has_linear, has_row, fixed, keys, weights,
-        values, inputs,
-    )
+    let built = build(circuit, form, tables);
+    let qubits = &mut *tables.qubits;
+    let origins = &mut *tables.origins;
+    let roles = &mut *tables.roles;
+    let linear = &mut *tables.linear;
+    let has_linear = &mut *tables.has_linear;
+    let has_row = &mut *tables.has_row;
+    let fixed = &mut *tables.fixed;
+    let keys = &mut *tables.keys;
+    let weights = &mut *tables.weights;
+    let left = LeftTables {
+        qubits,
+        origins,
+        roles,
+        linear,
+        has_linear,
+        has_row,
+        fixed,
+        keys,
+        weights,
+    };
+    run_built(circuit, built, &left, values, inputs)
 }

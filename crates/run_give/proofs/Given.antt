@@ -3,21 +3,17 @@
 use mathlib.Core.Path.{◌≡◌, refl, sym, ap, ◌∙◌}
 use mathlib.Core.Bool.{Bool, true, false}
 use mathlib.Core.List.{List, [], ◌∷◌}
-use Prim.Native.Nat.{ℕ, zero, suc, ◌+◌, ◌-◌, ◌%◌, ◌≤◌, ◌<◌}
+use Prim.Native.Nat.{ℕ, suc, ◌+◌, ◌-◌, ◌≤◌, ◌<◌}
 use native.Mathlib.Omega.{arith}
 use lib.Dec.{eqb}
-use lib.IntN.{ℤ, pos, negsuc, neg_ℤ}
+use lib.IntN.{ℤ, pos}
 use lib.ListN.{length, get_or, set, drop, drop_of_length-le}
-use native.Mathlib.Nat.{sub-zero, add-zero}
-use lib.Signed.{rem_z}
-use mir.Syntax.{w64}
-use mir.Val.{of_z}
-use Rattle.laws.specs.Equal.{eq_z}
+use Rattle.laws.specs.Equal.{eq_z, eq_z→eq}
 use Rattle.circuit.specs.File.{field}
 use Rattle.units.specs.Name.{gate}
-use Rattle.run_values.specs.declared.Went.{Went}
+use Rattle.run_values.specs.declared.Stop.{Stop}
 use Rattle.run_values.specs.declared.Stop.TheVariants.{NoQubit, NotUsedUp}
-use Rattle.run_values.specs.Need.{table, stopped, went, and_then, decide, bit}
+use Rattle.run_values.specs.Need.{Got, table, stopped, and_then, decide, bit}
 use Rattle.circuit.specs.Meaning.{circuit_of}
 use Rattle.run_rules.specs.declared.Part.{Part}
 use native.Mathlib.Numerals.{add-one}
@@ -25,20 +21,7 @@ use lib.Seq.{drop-cons}
 use Rattle.run_give.specs.Give.{low_bit, halved, give_bits, give_all}
 use Rattle.run_rules.specs.Layout.{named}
 use Rattle.run_rules.specs.Code.{part_of}
-use Rattle.run_values.specs.Code.{is_stop}
-use Rattle.run_give.specs.Asked.{set_bit, GiveAsked, InputsAsked}
-use Rattle.run_values.specs.Code.{stop-now, go_on}
-
--- ---- the remainder's bits
-
-minus : (m : ℕ) → m < 2 → eqb (of_z w64 (neg_ℤ (pos m))) 1 ≡ eq_z (neg_ℤ (pos m)) (pos 1)
-minus zero h = refl
-minus (suc zero) h = refl
-minus (suc (suc m)) h = absurd (omega arith)
-
-pub tested : (z : ℤ) → eqb (of_z w64 (rem_z z (pos 2))) 1 ≡ eq_z (rem_z z (pos 2)) (pos 1)
-tested (pos n) = refl
-tested (negsuc n) = minus (suc n % 2) (omega arith)
+use Rattle.run_give.specs.Asked.{Slots, set_bit, GiveAsked, InputsAsked}
 
 -- ---- the bits of an input
 
@@ -51,58 +34,63 @@ give-step qs k g gs v t = go (eqb (get_or qs g 0) 0)
     go true = refl
     go false = refl
 
-pub named-on : (b : List ℕ) (from bits j : ℕ) → j < bits → named b (from + j) (bits - j) ≡ field b (from + j) 1 ∷ named b (from + (j + 1)) (bits - (j + 1))
+pub named-on : (b : List ℕ) (n end : ℕ) → n < end → named b n (end - n) ≡ field b n 1 ∷ named b (n + 1) (end - (n + 1))
 unfolding named
-named-on b from bits j h = go (bits - j) (bits - (j + 1)) (from + (j + 1)) (omega arith) (omega arith)
+named-on b n end h = go (end - n) (end - (n + 1)) (n + 1) (omega arith) (omega arith)
   where
-    go : (m n p : ℕ) → m ≡ suc n → p ≡ suc (from + j) → named b (from + j) m ≡ field b (from + j) 1 ∷ named b p n
-    go m n p e f = rw (e, f)
+    go : (m l p : ℕ) → m ≡ suc l → p ≡ suc n → named b n m ≡ field b n 1 ∷ named b p l
+    go m l p e f = rw (e, f)
 
 pub named-done : (b : List ℕ) (n m : ℕ) → m ≡ 0 → named b n m ≡ []
 unfolding named
 named-done b n m e = rw e
 
--- the loop over the bits, at bit j with l left of the value
-pub record Giving (b qs : List ℕ) (k from bits : ℕ) (v : ℤ) (t₀ : List ℕ) (j : ℕ) (l : ℤ) (t : List ℕ) : Type 0 where
-  pub within : j ≤ bits
+-- the loop over the bits, at record n with l left of the value
+pub record Giving (b qs : List ℕ) (k from bits : ℕ) (v : ℤ) (t₀ : List ℕ) (n : ℕ) (l : ℤ) (t : List ℕ) : Type 0 where
+  pub past : from ≤ n
+  pub within : n ≤ from + bits
   pub long : length t ≡ length t₀
-  pub same : give_bits qs k (named b (from + j) (bits - j)) l t ≡ give_bits qs k (named b from bits) v t₀
+  pub same : give_bits qs k (named b n (from + bits - n)) l t ≡ give_bits qs k (named b from bits) v t₀
 
-pub giving-start : (b qs : List ℕ) (k from bits : ℕ) (v : ℤ) (t : List ℕ) → Giving b qs k from bits v t 0 v t
-giving-start b qs k from bits v t = record { within = omega arith; long = refl; same = rw (sub-zero bits, add-zero from) }
+pub giving-start : (b qs : List ℕ) (k from bits : ℕ) (v : ℤ) (t : List ℕ) → Giving b qs k from bits v t from v t
+giving-start b qs k from bits v t = let e : from + bits - from ≡ bits = omega arith in record { past = omega arith; within = omega arith; long = refl; same = rw e }
 
-module _ {b qs : List ℕ} {k from bits : ℕ} {v : ℤ} {t₀ : List ℕ} {j : ℕ} {l : ℤ} {t : List ℕ} (g : Giving b qs k from bits v t₀ j l t) where
-  module _ (more : j < bits) where
-    turn : (w : Went) (u : List ℕ) {x : ℕ} {z : Bool} → x ≡ field b (from + j) 1 → z ≡ low_bit l → went w u ≡ set_bit qs x z t
-        → and_then (went w u) (give_bits qs k (named b (from + (j + 1)) (bits - (j + 1))) (halved l)) ≡ give_bits qs k (named b from bits) v t₀
-    turn w u ex ez e =
+module _ {b qs : List ℕ} {k from bits : ℕ} {v : ℤ} {t₀ : List ℕ} {n : ℕ} {l : ℤ} {t : List ℕ} (g : Giving b qs k from bits v t₀ n l t) where
+  module _ (more : n < from + bits) where
+    pub gate-asked : GiveAsked b qs (length t₀) from bits → {x : ℕ} → x ≡ field b n 1 → Slots qs (length t) × (x < length qs)
+    gate-asked a ex =
+        let e : from + (n - from) ≡ n = omega (arith, g.past) in
+        let h : field b (from + (n - from)) 1 < length qs = a.gates (n - from) (omega (arith, g.past)) in
+        (rw g.long a.slots, rw ex (rw e at h))
+
+    turn : {y : Got} {x : ℕ} {z : Bool} → x ≡ field b n 1 → z ≡ low_bit l → y ≡ set_bit qs x z t
+        → and_then y (give_bits qs k (named b (n + 1) (from + bits - (n + 1))) (halved l)) ≡ give_bits qs k (named b from bits) v t₀
+    turn ex ez e =
         rw (e, ex, ez)
-        (sym (give-step qs k (field b (from + j) 1) (named b (from + (j + 1)) (bits - (j + 1))) l t) ∙ ap (λ gs. give_bits qs k gs l t) (sym (named-on b from bits j more)) ∙ g.same)
+        (sym (give-step qs k (field b n 1) (named b (n + 1) (from + bits - (n + 1))) l t) ∙ ap (λ gs. give_bits qs k gs l t) (sym (named-on b n (from + bits) more)) ∙ g.same)
 
-    pub give-on : (w : Went) (u : List ℕ) {x : ℕ} {z : Bool} → x ≡ field b (from + j) 1 → z ≡ low_bit l → went w u ≡ set_bit qs x z t → is_stop w ≡ false
-        → length u ≡ length t → {m : ℤ} → m ≡ halved l → Giving b qs k from bits v t₀ (j + 1) m u
-    give-on w u ex ez e f long em =
-        record {
-          within = omega arith;
-          long = long ∙ g.long;
-          same = rw em (sym (go_on w u (give_bits qs k (named b (from + (j + 1)) (bits - (j + 1))) (halved l)) f) ∙ turn w u ex ez e);
-        }
+    pub give-on : {u : List ℕ} {x : ℕ} {z : Bool} → x ≡ field b n 1 → z ≡ low_bit l → table u ≡ set_bit qs x z t → length u ≡ length t → {m : ℤ} → m ≡ halved l
+        → Giving b qs k from bits v t₀ (n + 1) m u
+    give-on ex ez e long em = record { past = omega (arith, g.past); within = omega arith; long = long ∙ g.long; same = rw em (turn ex ez e) }
 
-    pub give-stop : (w : Went) (u : List ℕ) {x : ℕ} {z : Bool} → x ≡ field b (from + j) 1 → z ≡ low_bit l → went w u ≡ set_bit qs x z t → is_stop w ≡ true
-        → went w u ≡ give_bits qs k (named b from bits) v t₀
-    give-stop w u ex ez e f = sym (stop-now w u u (give_bits qs k (named b (from + (j + 1)) (bits - (j + 1))) (halved l)) f) ∙ turn w u ex ez e
+    pub give-stop : {y : Stop} {x : ℕ} {z : Bool} → x ≡ field b n 1 → z ≡ low_bit l → stopped y ≡ set_bit qs x z t → stopped y ≡ give_bits qs k (named b from bits) v t₀
+    give-stop ex ez e = turn ex ez e
 
-  module _ (all : bits ≤ j) where
+  module _ (all : from + bits ≤ n) where
     none_left : give_bits qs k [] l t ≡ give_bits qs k (named b from bits) v t₀
-    none_left = ap (λ gs. give_bits qs k gs l t) (sym (named-done b (from + j) (bits - j) (omega arith))) ∙ g.same
+    none_left = ap (λ gs. give_bits qs k gs l t) (sym (named-done b n (from + bits - n) (omega arith))) ∙ g.same
 
-    pub used-up : {z : Bool} → z ≡ eq_z l (pos 0) → z ≡ true → table t ≡ give_bits qs k (named b from bits) v t₀
+    pub used-up : l ≡ pos 0 → table t ≡ give_bits qs k (named b from bits) v t₀
     unfolding give_bits
-    used-up e f = let h : eq_z l (pos 0) ≡ true = sym e ∙ f in rw h at none_left
+    used-up e = rw e at none_left
 
-    pub not-used-up : {z : Bool} → z ≡ eq_z l (pos 0) → z ≡ false → stopped (NotUsedUp k) ≡ give_bits qs k (named b from bits) v t₀
+    not-zero : (x : Bool) → eq_z l (pos 0) ≡ x → (l ≡ pos 0 → ⊥) → eq_z l (pos 0) ≡ false
+    not-zero true e n = absurd (n (eq_z→eq l (pos 0) (rw e tt)))
+    not-zero false e n = e
+
+    pub not-used-up : (l ≡ pos 0 → ⊥) → stopped (NotUsedUp k) ≡ give_bits qs k (named b from bits) v t₀
     unfolding give_bits
-    not-used-up e f = let h : eq_z l (pos 0) ≡ false = sym e ∙ f in rw h at none_left
+    not-used-up n = let h : eq_z l (pos 0) ≡ false = not-zero (eq_z l (pos 0)) refl n in rw h at none_left
 
 -- ---- all inputs
 
@@ -132,26 +120,20 @@ module _ {b starts qs : List ℕ} {n : ℕ} {vs : List ℤ} {t₀ : List ℕ} {k
   here : k < length (circuit_of b).inputs
   here = omega (arith, g.asked.count)
 
-  all-turn : (w : Went) (u : List ℕ) {p : Part} {v : ℤ} → p ≡ part_of starts k → v ≡ get_or vs k (pos 0) → went w u ≡ give_bits qs k (named b p.from p.bits) v t
-      → and_then (went w u) (give_all qs (suc k) (drop (suc k) (circuit_of b).inputs) (drop (suc k) vs)) ≡ give_all qs 0 (circuit_of b).inputs vs t₀
+  all-turn : {y : Got} {p : Part} {v : ℤ} → p ≡ part_of starts k → v ≡ get_or vs k (pos 0) → y ≡ give_bits qs k (named b p.from p.bits) v t
+      → and_then y (give_all qs (suc k) (drop (suc k) (circuit_of b).inputs) (drop (suc k) vs)) ≡ give_all qs 0 (circuit_of b).inputs vs t₀
   unfolding give_all
-  all-turn w u ep ev e =
+  all-turn ep ev e =
       rw (e, ep, ev, ← g.asked.laid.bits k here)
       (rw (drop-cons (circuit_of b).inputs k (record { nid = 0; bits = [] }) here, drop-cons vs k (pos 0) more) at g.same)
 
-  pub all-on : (w : Went) (u : List ℕ) {p : Part} {v : ℤ} → p ≡ part_of starts k → v ≡ get_or vs k (pos 0) → went w u ≡ give_bits qs k (named b p.from p.bits) v t
-      → is_stop w ≡ false → length u ≡ length t → GivingAll b starts qs n vs t₀ (k + 1) u
-  all-on w u ep ev e f l =
-      record {
-        asked = g.asked;
-        within = omega arith;
-        long = l ∙ g.long;
-        same = rw (add-one k) (sym (go_on w u (give_all qs (suc k) (drop (suc k) (circuit_of b).inputs) (drop (suc k) vs)) f) ∙ all-turn w u ep ev e);
-      }
+  pub all-on : {u : List ℕ} {p : Part} {v : ℤ} → p ≡ part_of starts k → v ≡ get_or vs k (pos 0) → table u ≡ give_bits qs k (named b p.from p.bits) v t → length u ≡ length t
+      → GivingAll b starts qs n vs t₀ (k + 1) u
+  all-on ep ev e l = record { asked = g.asked; within = omega arith; long = l ∙ g.long; same = rw (add-one k) (all-turn ep ev e) }
 
-  pub all-stop : (w : Went) (u : List ℕ) {p : Part} {v : ℤ} → p ≡ part_of starts k → v ≡ get_or vs k (pos 0) → went w u ≡ give_bits qs k (named b p.from p.bits) v t
-      → is_stop w ≡ true → went w u ≡ give_all qs 0 (circuit_of b).inputs vs t₀
-  all-stop w u ep ev e f = sym (stop-now w u u (give_all qs (suc k) (drop (suc k) (circuit_of b).inputs) (drop (suc k) vs)) f) ∙ all-turn w u ep ev e
+  pub all-stop : {y : Stop} {p : Part} {v : ℤ} → p ≡ part_of starts k → v ≡ get_or vs k (pos 0) → stopped y ≡ give_bits qs k (named b p.from p.bits) v t
+      → stopped y ≡ give_all qs 0 (circuit_of b).inputs vs t₀
+  all-stop ep ev e = all-turn ep ev e
 
 pub all_end : {b starts qs : List ℕ} {n : ℕ} {vs : List ℤ} {t₀ : List ℕ} {k : ℕ} {t : List ℕ} → GivingAll b starts qs n vs t₀ k t → length vs ≤ k
     → table t ≡ give_all qs 0 (circuit_of b).inputs vs t₀

@@ -1,8 +1,7 @@
 // Giving the inputs: each bit of a value to its qubit; refusals 12 and 13.
 #![tactic(auto)]
 
-ghost use Rattle.std.specs.Prelude.{◌≡◌, ◌+◌, ◌-◌, ◌<◌, length, pos};
-ghost use Rattle.laws.specs.Equal.{eq_z};
+ghost use Rattle.std.specs.Prelude.{◌≡◌, ◌<◌, length};
 ghost use Rattle.circuit.specs.Meaning.{circuit_of};
 ghost use Rattle.run_values.specs.Need.{went};
 ghost use Rattle.run_give.specs.Give.{low_bit, halved, give_bits, give_all};
@@ -11,8 +10,8 @@ ghost use Rattle.run_give.specs.Asked.{Slots, set_bit, GiveAsked, InputsAsked};
 
 use circuit_records::field_at;
 use run_operands::part_of;
-use run_values::settle::byte_of;
-use run_values::{Stop, Went, stops};
+use run_rules::{NumberedCircuit, Part};
+use run_values::Stop;
 use units::Gate;
 
 // Whether the lowest bit of v is set: not where v is negative, since the remainder has v's sign.
@@ -29,82 +28,56 @@ pub fn half_of(v: i64) -> i64
     v / 2
 }
 
-pub fn is_zero(v: i64) -> bool
-    ensures { result ≡ eq_z v (pos 0) }
-{
-    v == 0
-}
-
 // One bit is given to gate g's qubit.
-fn set_bit(qubits: &[u16], values: &mut [u8], g: u16, b: bool) -> Went
+fn set_bit(qubits: &[u16], values: &mut [u8], g: u16, b: bool) -> Result<(), Stop>
     requires { Slots qubits.now (length values.old) × (g < length qubits.now) }
     ensures { went result values.new ≡ set_bit qubits.now g b values.old }
 {
-    let at = g as usize;
-    let entry = qubits[at];
+    let entry = qubits[usize::from(g)];
     if entry == 0 {
-        return Went::Stopped(Stop::NoQubit(Gate(g)));
+        return Err(Stop::NoQubit(Gate(g)));
     }
-    let name = (entry - 1) as usize;
-    values[name] = byte_of(b);
-    Went::On
+    values[usize::from(entry - 1)] = u8::from(b);
+    Ok(())
 }
 
-// The bits of input k, whose records are `bits` from `from` on.
+// The bits of input k, which have these records.
 fn give_bits(
-    circuit: &[u8],
-    qubits: &[u16],
+    on: &NumberedCircuit,
     values: &mut [u8],
-    from: usize,
-    bits: usize,
+    part: Part,
     k: u16,
     v: i64,
-) -> Went
-    requires { GiveAsked circuit.now qubits.now (length values.old) from bits }
-    ensures { went result values.new ≡ give_bits qubits.now k (named circuit.now from bits) v values.old }
+) -> Result<(), Stop>
+    requires { GiveAsked on.now.circuit.now on.now.qubits.now (length values.old) part.from part.bits }
+    ensures { went result values.new ≡ give_bits on.now.qubits.now k (named on.now.circuit.now part.from part.bits) v values.old }
 {
     let mut left = v;
-    let mut j: usize = 0;
-    while j < bits {
-        let g = field_at(circuit, from + j, 1);
-        j += 1;
-        let b = low_bit(left);
+    for n in part.from..part.from + part.bits {
+        let g = field_at(on.circuit, n, 1);
+        set_bit(on.qubits, values, g, low_bit(left))?;
         left = half_of(left);
-        let w = set_bit(qubits, values, g, b);
-        if stops(w) {
-            return w;
-        }
     }
-    if is_zero(left) {
-        Went::On
+    if left == 0 {
+        Ok(())
     } else {
-        Went::Stopped(Stop::NotUsedUp(k))
+        Err(Stop::NotUsedUp(k))
     }
 }
 
-// All inputs, in order.
+// All inputs, in order; `input_starts` says where they stand in the file.
 pub fn give_all(
-    circuit: &[u8],
-    starts: &[u16],
-    qubits: &[u16],
+    on: &NumberedCircuit,
+    input_starts: &[u16],
     values: &mut [u8],
     inputs: &[i64],
-) -> Went
-    requires { InputsAsked circuit.now starts.now qubits.now (length values.old) inputs.now }
-    ensures { went result values.new ≡ give_all qubits.now 0 (circuit_of circuit.now).inputs inputs.now values.old }
+) -> Result<(), Stop>
+    requires { InputsAsked on.now.circuit.now input_starts.now on.now.qubits.now (length values.old) inputs.now }
+    ensures { went result values.new ≡ give_all on.now.qubits.now 0 (circuit_of on.now.circuit.now).inputs inputs.now values.old }
 {
-    let mut k: usize = 0;
-    while k < inputs.len() {
-        let number = k as u16;
-        let v = inputs[k];
-        k += 1;
-        let part = part_of(starts, number);
-        let from = part.from;
-        let bits = part.bits;
-        let w = give_bits(circuit, qubits, values, from, bits, number, v);
-        if stops(w) {
-            return w;
-        }
+    for (i, &v) in inputs.iter().enumerate() {
+        let k = i as u16;
+        give_bits(on, values, part_of(input_starts, k), k, v)?;
     }
-    Went::On
+    Ok(())
 }

@@ -1,6 +1,6 @@
 -- What stands in the tables that a build left is ready for a run.
 -- Assumes nothing.
-use Rattle.std.specs.Prelude.{◌≡◌, refl, List, [], ◌∷◌, map, ℕ, zero, suc, ◌+◌, ◌*◌, ◌-◌, ◌^◌, ◌≤◌, ◌<◌, ℤ, pos, nat_abs, length, get_or, take, drop, replicate}
+use Rattle.std.specs.Prelude.{◌≡◌, refl, List, [], ◌∷◌, map, ℕ, zero, suc, ◌+◌, ◌*◌, ◌-◌, ◌^◌, ◌≤◌, ◌<◌, ℤ, pos, nat_abs, length, get_or, take, drop, replicate, Ok, Result}
 use Rattle.std.proofs.Common.{sym, ap, ap₂, ◌∙◌, append_assoc, arith, length-take-le, take-take}
 use Rattle.std.proofs.lemmas.List.{length-map, take-append-le}
 use Rattle.std.proofs.Math.Seq.{take-append_seam}
@@ -36,8 +36,6 @@ use Rattle.store.specs.Tables.{tables}
 use Rattle.model_fixes.specs.Order.{fixes_of}
 use Rattle.model.specs.Steps.{finished_of}
 use Rattle.model_place.specs.Blank.{pairs_of}
-use Rattle.qubot_left.specs.declared.Built.{Built}
-use Rattle.qubot_left.specs.declared.Built.TheVariants.{Done}
 use Rattle.qubot_left.specs.declared.Finished.{Finished}
 use Rattle.qubot_left.specs.Built.{Tables, padded, filled, onto, within, answer, built}
 use Rattle.qubot_left.specs.Parts.{Passed, counted, gates-are, list-bits-are, gates-few, list-bits-few}
@@ -49,6 +47,7 @@ use Rattle.run_meaning.specs.Ran.{built_of, ran}
 use Rattle.energy.proofs.Beyond.{beyond}
 use Rattle.run_left.specs.Cut.{ran-cut}
 use Rattle.run_left.specs.Evaluated.{built_in}
+use Rattle.circuit.specs.declared.Refusal.{Refusal}
 
 -- how many pairs there are, and the offset
 abbrev pub totals : ℤ → ℕ → Totals
@@ -223,11 +222,11 @@ module _ (b : List ℕ) (form : Form) (t : Tables) (sound : Sound b) (s : State)
 
 -- what a build left that is not refused
 -- where a build is done
-abbrev pub LeftBy : List ℕ → Tables → Built → Type 0
-LeftBy b u x = (f : Finished) → x ≡ Done f → Left b u f
+abbrev pub LeftBy : List ℕ → Tables → Result Finished Refusal → Type 0
+LeftBy b u x = (f : Finished) → x ≡ Ok f → Left b u f
 
-pub left_by : (b : List ℕ) (form : Form) (t u : Tables) (x : Built) → (u, x) ≡ built b form t → LeftBy b u x
-left_by b form t u x e f p = by-done b form t u f (Left b) (sym e ∙ ap (λ (y : Built). (u, y)) p) (left-of b form t)
+pub left_by : (b : List ℕ) (form : Form) (t u : Tables) (x : Result Finished Refusal) → (u, x) ≡ built b form t → LeftBy b u x
+left_by b form t u x e f p = by-done b form t u f (Left b) (sym e ∙ ap (λ (y : Result Finished Refusal). (u, y)) p) (left-of b form t)
 
 -- ---- what the code lends
 

@@ -3,3 +3,4 @@ pub mod Cut
 pub mod Left
 pub mod Proved
 pub mod Samples
+pub mod Lent

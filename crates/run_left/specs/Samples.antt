@@ -1,7 +1,7 @@
 -- 01's starred runs, as a single table under one statement, by computation over `evaluated`: from the bytes of the circuit, on tables and value bytes full of other
 -- numbers, to the answer and what stands in the value bytes afterwards.
 -- Assumes nothing.
-use Rattle.std.specs.Prelude.{◌≡◌, refl, Bool, true, false, List, [], ◌∷◌, map, ℕ, ℤ, pos, neg_ℤ, replicate, take}
+use Rattle.std.specs.Prelude.{◌≡◌, refl, Bool, true, false, List, [], ◌∷◌, map, ℕ, ℤ, pos, neg_ℤ, replicate, take, Err, Ok, Result}
 use Rattle.units.specs.declared.Form.TheVariants.{Binary}
 use Rattle.penalty.specs.Rows.{rows, row_of}
 use Rattle.energy.specs.Plain.{wire}
@@ -24,13 +24,13 @@ use Rattle.model_fixes.specs.Order.{joined_qubit, fixes_of}
 use Rattle.model.specs.Steps.{placed_of, finished_of}
 use Rattle.qubot_left.specs.Made.{make}
 use Rattle.qubot_left.specs.Built.{Tables, lent, built}
-use Rattle.run_outcome.specs.declared.Outcome.{Outcome}
-use Rattle.run_outcome.specs.declared.Outcome.TheVariants.{Ran, Refused}
 use Rattle.run_rules.specs.Rules.{law_of, depth}
 use Rattle.run_meaning.specs.Need.{each, number as number_in, settle, follow, step, need, need_of}
 use Rattle.run_meaning.specs.Give.{give_bits, give_all}
 use Rattle.run_meaning.specs.Ran.{Done, marked, keys_of, higher, with_higher, true_nids, valued, within, ran}
 use Rattle.run_left.specs.Evaluated.{evaluated}
+use Rattle.units.specs.declared.Energy.{Energy}
+use Rattle.circuit.specs.declared.Refusal.{Refusal}
 
 -- ---- how a sample is written
 
@@ -43,9 +43,9 @@ pub data Says : Type 0 where
 abbrev whole : ℕ → ℤ
 whole n = halves (pos n)
 
-abbrev said_by : Outcome → List ℕ → Says
-said_by (Refused r) nids = refusal (number_of r) (place_of r)
-said_by (Ran e hit) nids = energy e.halves hit nids
+abbrev said_by : Result (Energy × Bool) Refusal → List ℕ → Says
+said_by (Err r) nids = refusal (number_of r) (place_of r)
+said_by (Ok (e, hit)) nids = energy e.halves hit nids
 
 -- tables for g gates, n qubits and k pairs, full of other numbers
 abbrev used : ℕ → ℕ → ℕ → Tables

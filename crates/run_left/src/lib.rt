@@ -4,145 +4,104 @@
 ghost use Rattle.std.specs.Prelude.{◌≡◌};
 ghost use Rattle.circuit.specs.Check.{counts_of};
 ghost use Rattle.circuit.specs.Starts.{starts_of};
-ghost use Rattle.qubot_left.specs.Built.{lent};
 ghost use Rattle.run_meaning.specs.Ran.{done, ran};
+ghost use Rattle.run_left.specs.Lent.{lent_in};
 ghost use Rattle.run_left.specs.Left.{Left, LeftBy};
 ghost use Rattle.run_left.specs.Evaluated.{built_in, ran_by};
 
-use circuit::Counts;
+use circuit::{Counts, Refusal};
 use circuit_lists::{input_starts, list_starts};
 use circuit_sizes::counts_of;
-use qubot_left::{Built, Finished};
+use qubot_left::Finished;
 use run_outcome::Run;
-use run_tables::{refused, run_on};
+use run_rules::NumberedCircuit;
+use run_tables::{FinishedModel, refused, run_on};
 use store::Totals;
 
-// Lends a run the entries in use of the tables that a build left.
+// The tables as a build left them, with the entries past those in use.
+#[derive(Clone, Copy)]
+pub struct LeftTables<'a> {
+    pub qubits: &'a [u16],
+    pub origins: &'a [u16],
+    pub roles: &'a [u8],
+    pub linear: &'a [i64],
+    pub has_linear: &'a [u8],
+    pub has_row: &'a [u8],
+    pub fixed: &'a [u8],
+    pub keys: &'a [u32],
+    pub weights: &'a [i64],
+}
+
+// Lends a run the entries in use.
 fn run_parts(
     circuit: &[u8],
     k: Counts,
     starts: &[u16; 65],
     inputs_from: &[u16; 65],
     f: Finished,
-    qubits: &[u16],
-    origins: &[u16],
-    roles: &[u8],
-    linear: &[i64],
-    has_linear: &[u8],
-    has_row: &[u8],
-    fixed: &[u8],
-    keys: &[u32],
-    weights: &[i64],
+    tables: &LeftTables,
     values: &mut [u8],
     inputs: &[i64],
 ) -> Run
-    requires { Left circuit.now (lent qubits.now origins.now roles.now linear.now has_linear.now has_row.now fixed.now keys.now weights.now) f × (k ≡ counts_of circuit.now) × (starts.now ≡ starts_of circuit.now 20) × (inputs_from.now ≡ starts_of circuit.now 23) }
-    ensures { done result values.new ≡ ran (built_in circuit.now (lent qubits.now origins.now roles.now linear.now has_linear.now has_row.now fixed.now keys.now weights.now) f) inputs.now values.old }
+    requires { Left circuit.now (lent_in tables.now) f × (k ≡ counts_of circuit.now) × (starts.now ≡ starts_of circuit.now 20) × (inputs_from.now ≡ starts_of circuit.now 23) }
+    ensures { done result values.new ≡ ran (built_in circuit.now (lent_in tables.now) f) inputs.now values.old }
 {
-    let g = k.gates;
-    let n = 3 * g + k.bad_states + 1;
-    let from = g + k.list_bits;
-    let form = f.form;
-    let names = f.names;
-    let pairs = f.pairs;
-    let offset = f.offset;
-    let bads = f.bads;
-    let count = f.inputs;
-    run_on(
+    let n = 3 * k.gates + k.bad_states + 1;
+    let on = NumberedCircuit {
         circuit,
         starts,
-        inputs_from,
-        form,
-        &qubits[..g],
-        &origins[..n],
-        &roles[..n],
-        names,
-        &linear[..names],
-        &has_linear[..n],
-        &has_row[..n],
-        &fixed[..n],
-        &keys[..pairs],
-        &weights[..pairs],
-        Totals {
-            offset,
-            count: pairs,
+        bads: k.gates + k.list_bits,
+        qubits: &tables.qubits[..k.gates],
+        origins: &tables.origins[..n],
+        roles: &tables.roles[..n],
+        names: f.names,
+        fixed: &tables.fixed[..n],
+    };
+    let model = FinishedModel {
+        form: f.form,
+        linear: &tables.linear[..f.names],
+        flags: &tables.has_linear[..n],
+        rows: &tables.has_row[..n],
+        keys: &tables.keys[..f.pairs],
+        weights: &tables.weights[..f.pairs],
+        totals: Totals {
+            offset: f.offset,
+            count: f.pairs,
         },
-        from,
-        bads,
-        count,
-        values,
-        inputs,
-    )
+    };
+    run_on(&on, &model, inputs_from, f.bads, f.inputs, values, inputs)
 }
 
 // Runs on what a build left.
 fn run_left(
     circuit: &[u8],
     f: Finished,
-    qubits: &[u16],
-    origins: &[u16],
-    roles: &[u8],
-    linear: &[i64],
-    has_linear: &[u8],
-    has_row: &[u8],
-    fixed: &[u8],
-    keys: &[u32],
-    weights: &[i64],
+    tables: &LeftTables,
     values: &mut [u8],
     inputs: &[i64],
 ) -> Run
-    requires { Left circuit.now (lent qubits.now origins.now roles.now linear.now has_linear.now has_row.now fixed.now keys.now weights.now) f }
-    ensures { done result values.new ≡ ran (built_in circuit.now (lent qubits.now origins.now roles.now linear.now has_linear.now has_row.now fixed.now keys.now weights.now) f) inputs.now values.old }
+    requires { Left circuit.now (lent_in tables.now) f }
+    ensures { done result values.new ≡ ran (built_in circuit.now (lent_in tables.now) f) inputs.now values.old }
 {
     let k = counts_of(circuit);
-    let gates = k.gates;
-    let list_bits = k.list_bits;
-    let starts = list_starts(circuit, gates, list_bits);
+    let starts = list_starts(circuit, k.gates, k.list_bits);
     let inputs_from = input_starts(circuit);
-    run_parts(
-        circuit,
-        k,
-        &starts,
-        &inputs_from,
-        f,
-        qubits,
-        origins,
-        roles,
-        linear,
-        has_linear,
-        has_row,
-        fixed,
-        keys,
-        weights,
-        values,
-        inputs,
-    )
+    run_parts(circuit, k, &starts, &inputs_from, f, tables, values, inputs)
 }
 
 // Runs on what a build left, or gives its refusal.
 pub fn run_built(
     circuit: &[u8],
-    built: Built,
-    qubits: &[u16],
-    origins: &[u16],
-    roles: &[u8],
-    linear: &[i64],
-    has_linear: &[u8],
-    has_row: &[u8],
-    fixed: &[u8],
-    keys: &[u32],
-    weights: &[i64],
+    built: Result<Finished, Refusal>,
+    tables: &LeftTables,
     values: &mut [u8],
     inputs: &[i64],
 ) -> Run
-    requires { LeftBy circuit.now (lent qubits.now origins.now roles.now linear.now has_linear.now has_row.now fixed.now keys.now weights.now) built }
-    ensures { done result values.new ≡ ran_by circuit.now inputs.now values.old (lent qubits.now origins.now roles.now linear.now has_linear.now has_row.now fixed.now keys.now weights.now) built }
+    requires { LeftBy circuit.now (lent_in tables.now) built }
+    ensures { done result values.new ≡ ran_by circuit.now inputs.now values.old (lent_in tables.now) built }
 {
     match built {
-        Built::Refused(r) => refused(r),
-        Built::Done(f) => run_left(
-            circuit, f, qubits, origins, roles, linear, has_linear, has_row, fixed, keys, weights,
-            values, inputs,
-        ),
+        Err(r) => refused(r),
+        Ok(f) => run_left(circuit, f, tables, values, inputs),
     }
 }

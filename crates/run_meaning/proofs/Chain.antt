@@ -1,13 +1,10 @@
 -- Needing lists one after the other. Assumes nothing.
 use mathlib.Core.Path.{◌≡◌, refl, sym, ap, ◌∙◌}
-use mathlib.Core.Bool.{true, false}
 use mathlib.Core.List.{List, [], ◌∷◌, ◌++◌}
 use Prim.Native.Nat.{ℕ}
-use Rattle.run_values.specs.declared.Went.{Went}
-use Rattle.run_values.specs.Need.{Got, table, stopped, went, and_then, each}
-use Rattle.run_values.specs.Code.{is_stop}
+use Rattle.run_values.specs.declared.Stop.{Stop}
+use Rattle.run_values.specs.Need.{Got, table, stopped, and_then, each}
 use Rattle.run_values.specs.Fuel.{and_then-ext}
-use Rattle.run_values.specs.Code.{stop-now, go_on}
 
 pub each_append : (v : ℕ → List ℕ → Got) (xs ys t : List ℕ) → each v (xs ++ ys) t ≡ and_then (each v xs t) (each v ys)
 unfolding each
@@ -18,8 +15,8 @@ each_append v (x ∷ xs) ys t = and_then-ext (v x t) (each v (xs ++ ys)) (λ u. 
     assoc (table u) = refl
     assoc (stopped x) = refl
 
-pub then-stop : (v : ℕ → List ℕ → Got) (xs ys t : List ℕ) (w : Went) (u : List ℕ) → went w u ≡ each v xs t → is_stop w ≡ true → went w u ≡ each v (xs ++ ys) t
-then-stop v xs ys t w u e f = sym (stop-now w u u (each v ys) f) ∙ ap (λ (g : Got). and_then g (each v ys)) e ∙ sym (each_append v xs ys t)
+pub then-stop : (v : ℕ → List ℕ → Got) (xs ys t : List ℕ) {x : Stop} → stopped x ≡ each v xs t → stopped x ≡ each v (xs ++ ys) t
+then-stop v xs ys t e = ap (λ (g : Got). and_then g (each v ys)) e ∙ sym (each_append v xs ys t)
 
-pub then-on : (v : ℕ → List ℕ → Got) (xs ys t : List ℕ) (w : Went) (u : List ℕ) → went w u ≡ each v xs t → is_stop w ≡ false → each v ys u ≡ each v (xs ++ ys) t
-then-on v xs ys t w u e f = sym (go_on w u (each v ys) f) ∙ ap (λ (g : Got). and_then g (each v ys)) e ∙ sym (each_append v xs ys t)
+pub then-on : (v : ℕ → List ℕ → Got) (xs ys t : List ℕ) {u : List ℕ} → table u ≡ each v xs t → each v ys u ≡ each v (xs ++ ys) t
+then-on v xs ys t e = ap (λ (g : Got). and_then g (each v ys)) e ∙ sym (each_append v xs ys t)

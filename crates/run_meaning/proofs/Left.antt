@@ -1,12 +1,11 @@
 -- A loop that needs the names of a list: what is left to do from here is what there was to do. And how the lists of names go on.
 --     left-start, left-asked, left-on, left-stop, left_end
 --     marked-on, marked-skip, marked-done     the names whose flag is set
---     bad-on                                  the bad states
+--     bad-on, bad-done                        the bad states
 -- Assumes nothing.
-use mathlib.Core.Path.{◌≡◌, refl, sym, ap, ◌∙◌}
-use mathlib.Core.Bool.{true, false}
+use mathlib.Core.Path.{◌≡◌, refl, ap, ◌∙◌}
 use mathlib.Core.List.{List, [], ◌∷◌, map}
-use Prim.Native.Nat.{ℕ, suc, ◌+◌, ◌≤◌, ◌<◌}
+use Prim.Native.Nat.{ℕ, suc, ◌+◌, ◌-◌, ◌≤◌, ◌<◌}
 use native.Mathlib.Omega.{arith}
 use native.Mathlib.Numerals.{add-one}
 use lib.ListN.{length, get_or, drop, drop_of_length-le, length-map}
@@ -16,14 +15,12 @@ use Rattle.circuit.specs.File.{field}
 use Rattle.circuit.specs.Meaning.{circuit_of}
 use Rattle.numbering.specs.State.{State, qubit_of}
 use Rattle.numbering.specs.Numbered.{bad_gates}
-use Rattle.run_values.specs.declared.Went.{Went}
-use Rattle.run_values.specs.Need.{table, went, and_then, each, need_of}
+use Rattle.run_values.specs.declared.Stop.{Stop}
+use Rattle.run_values.specs.Need.{Got, table, stopped, and_then, each, need_of}
 use Rattle.run_meaning.specs.Ran.{marked, bad_qubits}
 use Rattle.run_rules.specs.Layout.{Laid}
 use Rattle.run_values.specs.Asking.{net, Asked, NeedsAsked}
 use Rattle.run_rules.specs.Code.{name_in}
-use Rattle.run_values.specs.Code.{is_stop}
-use Rattle.run_values.specs.Code.{stop-now, go_on}
 use Rattle.run_values.proofs.Means.{bad-gate}
 
 pub record Left (b starts : List ℕ) (bad_from : ℕ) (s : State) (fixed t₀ all rest t : List ℕ) : Type 0 where
@@ -42,19 +39,16 @@ module _ {b starts : List ℕ} {bad_from : ℕ} {s : State} {fixed t₀ all : Li
   pub left-asked : {y : ℕ} → y ≡ x → x < s.next → Asked b starts bad_from s fixed t y
   left-asked e n = record { ready = g.asked.ready; values = omega (arith, g.asked.values, g.long); name = omega arith }
 
-  turn : {y : ℕ} (w : Went) (u : List ℕ) → y ≡ x → went w u ≡ need_of (net b s fixed) y t
-      → and_then (went w u) (each (need_of (net b s fixed)) rest) ≡ each (need_of (net b s fixed)) all t₀
+  turn : {y : ℕ} {z : Got} → y ≡ x → z ≡ need_of (net b s fixed) y t
+      → and_then z (each (need_of (net b s fixed)) rest) ≡ each (need_of (net b s fixed)) all t₀
   unfolding each
-  turn w u e k = rw (k, e) g.same
+  turn e k = rw (k, e) g.same
 
-  pub left-on : {y : ℕ} (w : Went) (u : List ℕ) → y ≡ x → went w u ≡ need_of (net b s fixed) y t → is_stop w ≡ false → length u ≡ length t
-      → Left b starts bad_from s fixed t₀ all rest u
-  left-on w u e k f l =
-      record { asked = g.asked; same = sym (go_on w u (each (need_of (net b s fixed)) rest) f) ∙ turn w u e k; long = l ∙ g.long }
+  pub left-on : {y : ℕ} {u : List ℕ} → y ≡ x → table u ≡ need_of (net b s fixed) y t → length u ≡ length t → Left b starts bad_from s fixed t₀ all rest u
+  left-on e k l = record { asked = g.asked; same = turn e k; long = l ∙ g.long }
 
-  pub left-stop : {y : ℕ} (w : Went) (u : List ℕ) → y ≡ x → went w u ≡ need_of (net b s fixed) y t → is_stop w ≡ true
-      → went w u ≡ each (need_of (net b s fixed)) all t₀
-  left-stop w u e k f = sym (stop-now w u u (each (need_of (net b s fixed)) rest) f) ∙ turn w u e k
+  pub left-stop : {y : ℕ} {z : Stop} → y ≡ x → stopped z ≡ need_of (net b s fixed) y t → stopped z ≡ each (need_of (net b s fixed)) all t₀
+  left-stop e k = turn e k
 
 pub left_end : {b starts : List ℕ} {bad_from : ℕ} {s : State} {fixed t₀ all t : List ℕ} → Left b starts bad_from s fixed t₀ all [] t → table t ≡ each (need_of (net b s fixed)) all t₀
 unfolding each
@@ -78,19 +72,30 @@ module _ (fs : List ℕ) (q : ℕ) where
 
 -- ---- bad states
 
-module _ (b starts : List ℕ) (bad_from : ℕ) (laid : Laid b starts bad_from) (s : State) (i : ℕ) (h : i < length (circuit_of b).bads) where
-  length-bads : length (bad_qubits (circuit_of b) s) ≡ length (circuit_of b).bads
-  length-bads = simp length-map
+module _ (b starts : List ℕ) (bad_from : ℕ) (laid : Laid b starts bad_from) (s : State) (n : ℕ) (past : bad_from ≤ n) where
+  module _ (h : n < bad_from + length (circuit_of b).bads) where
+    length-bads : length (bad_qubits (circuit_of b) s) ≡ length (circuit_of b).bads
+    length-bads = simp length-map
 
-  get_or-map-in : (f : ℕ → ℕ) (l : List ℕ) (j : ℕ) → j < length l → get_or (map f l) j 0 ≡ f (get_or l j 0)
-  get_or-map-in f [] j l = absurd (omega arith)
-  get_or-map-in f (x ∷ xs) Prim.Native.Nat.ℕ.zero l = refl
-  get_or-map-in f (x ∷ xs) (suc j) l = get_or-map-in f xs j (omega arith)
+    get_or-map-in : (f : ℕ → ℕ) (l : List ℕ) (j : ℕ) → j < length l → get_or (map f l) j 0 ≡ f (get_or l j 0)
+    get_or-map-in f [] j l = absurd (omega arith)
+    get_or-map-in f (x ∷ xs) Prim.Native.Nat.ℕ.zero l = refl
+    get_or-map-in f (x ∷ xs) (suc j) l = get_or-map-in f xs j (omega arith)
 
-  bad-at : get_or (bad_qubits (circuit_of b) s) i 0 ≡ name_in s.qubits (field b (bad_from + i) 0)
-  bad-at =
-      get_or-map-in (qubit_of s) (bad_gates (circuit_of b)) i (simp length-map h)
-      ∙ ap (qubit_of s) (bad-gate b starts bad_from laid i h)
+    within : n - bad_from < length (circuit_of b).bads
+    within = omega (arith, past)
 
-  pub bad-on : drop i (bad_qubits (circuit_of b) s) ≡ name_in s.qubits (field b (bad_from + i) 0) ∷ drop (i + 1) (bad_qubits (circuit_of b) s)
-  bad-on = drop-cons (bad_qubits (circuit_of b) s) i 0 (omega (arith, length-bads)) ∙ rw (bad-at, add-one i)
+    bad-at : get_or (bad_qubits (circuit_of b) s) (n - bad_from) 0 ≡ name_in s.qubits (field b n 0)
+    bad-at =
+        let e : bad_from + (n - bad_from) ≡ n = omega (arith, past) in
+        get_or-map-in (qubit_of s) (bad_gates (circuit_of b)) (n - bad_from) (simp length-map within)
+        ∙ ap (qubit_of s) (bad-gate b starts bad_from laid (n - bad_from) within ∙ ap (λ (m : ℕ). field b m 0) e)
+
+    next : suc (n - bad_from) ≡ n + 1 - bad_from
+    next = omega (arith, past)
+
+    pub bad-on : drop (n - bad_from) (bad_qubits (circuit_of b) s) ≡ name_in s.qubits (field b n 0) ∷ drop (n + 1 - bad_from) (bad_qubits (circuit_of b) s)
+    bad-on = drop-cons (bad_qubits (circuit_of b) s) (n - bad_from) 0 (omega (arith, length-bads, within)) ∙ rw (bad-at, next)
+
+  pub bad-done : bad_from + length (circuit_of b).bads ≤ n → drop (n - bad_from) (bad_qubits (circuit_of b) s) ≡ []
+  bad-done h = drop_of_length-le (bad_qubits (circuit_of b) s) (simp length-map (omega (arith, past)))

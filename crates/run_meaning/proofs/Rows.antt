@@ -1,4 +1,4 @@
--- The walk over the rows: what is left at a row and a pair, and that each step of the code takes its first name.
+-- The walk over the rows: what is left at a row and a pair, and its first name.
 -- Assumes nothing.
 use mathlib.Core.Path.{◌≡◌, refl, ap, ◌∙◌}
 use mathlib.Core.Bool.{Bool, true, false, cond}
@@ -7,17 +7,13 @@ use Prim.Native.Nat.{ℕ, suc, ◌+◌, ◌≤◌, ◌<◌}
 use native.Mathlib.Omega.{arith}
 use native.Mathlib.Numerals.{add-one}
 use lib.Dec.{eqb, ltb}
-use lib.ListN.{length, get_or, take, drop, drop_of_length-le}
-use lib.Seq.{drop-cons, get_or-take, length-take-le}
+use lib.ListN.{length, get_or, drop, drop_of_length-le}
+use lib.Seq.{drop-cons}
 use borrow.Author.Tests.{ne_eqb, lt-ltb, le-ltb}
-use Rattle.laws.specs.Test.{by_eqb, by-ltb}
-use Rattle.units.specs.Name.{qubit}
-use Rattle.run_meaning.specs.declared.needs.Next.{Next}
-use Rattle.run_meaning.specs.declared.needs.Next.TheVariants as next
-use Rattle.run_meaning.specs.Code.{cursor, row_next, next_of}
+use Rattle.laws.specs.Test.{by_eqb}
 use Rattle.energy.specs.Model.{low, high}
 use Rattle.run_meaning.specs.Ran.{marked, higher, with_higher}
-use Rattle.run_meaning.specs.Layout.{Stacked, Flags}
+use Rattle.run_meaning.specs.Layout.{Stacked}
 use Rattle.run_meaning.proofs.Left.{marked-on, marked-skip, marked-done}
 
 -- the higher qubits of the pairs whose lower one comes before q
@@ -76,6 +72,13 @@ module _ (n : ℕ) (rows : List ℕ) where
       past : q + 1 ≤ low k
       past = omega (arith, a.0, differ)
 
+  -- nor is its pair one of the rows before q + 1
+  pub stacked-past : (q : ℕ) (ks : List ℕ) → Stacked n rows q ks → (get_or rows q 0 ≡ 1 → ⊥) → Stacked n rows (q + 1) ks
+  stacked-past q [] a f = tt
+  stacked-past q (k ∷ ks) a f =
+      let differ : low k ≡ q → ⊥ = λ e. f (rw e at a.2) in
+      (omega (arith, a.0, differ), a.1, a.2, a.3)
+
   pub rest-start : (ks : List ℕ) → Stacked n rows 0 ks → with_higher ks (marked 0 rows) ≡ rest rows 0 ks
   rest-start ks a = rw (none_below 0 ks a)
 
@@ -97,68 +100,28 @@ module _ (n : ℕ) (rows : List ℕ) where
   unfolding with_higher
   row-end q ks h a = rw (none_below q ks a, marked-done rows q h)
 
--- ---- the code's steps
+  -- ---- the pairs by number: those of the row q, and past the last of them
 
-abbrev pub first : ℕ → List ℕ → List ℕ
-first count keys = take count keys
+  module _ (keys : List ℕ) (q k : ℕ) (st : Stacked n rows q (drop k keys)) where
+    module _ (h : k < length keys) where
+      there : drop k keys ≡ get_or keys k 0 ∷ drop (k + 1) keys
+      there = drop-cons keys k 0 h ∙ rw (add-one k)
 
--- the name x comes next, and the walk goes on at q' and k'
-pub record Named (n : ℕ) (rows ks : List ℕ) (q k count x q' k' : ℕ) : Type 0 where
-  pub is : rest rows q (drop k ks) ≡ x ∷ rest rows q' (drop k' ks)
-  pub named : x < n
-  pub stacked : Stacked n rows 0 (drop k' ks)
-  pub further : q' + k' ≡ q + k + 1
-  pub row : q' ≤ length rows
-  pub pair : k' ≤ count
+      here : Stacked n rows q (get_or keys k 0 ∷ drop (k + 1) keys)
+      here = rw there at st
 
-pub record Passed (n : ℕ) (rows ks : List ℕ) (q k count q' k' : ℕ) : Type 0 where
-  pub is : rest rows q (drop k ks) ≡ rest rows q' (drop k' ks)
-  pub stacked : Stacked n rows 0 (drop k' ks)
-  pub further : q' + k' ≡ q + k + 1
-  pub row : q' ≤ length rows
-  pub pair : k' ≤ count
+      pub pair-named : high (get_or keys k 0) < n
+      pair-named = here.1
 
-abbrev pub Turn : ℕ → List ℕ → List ℕ → ℕ → ℕ → ℕ → Next → Type 0
-Turn n rows ks q k count (next.Name x d) = Named n rows ks q k count x.0 d.q d.k
-Turn n rows ks q k count (next.Pass d) = Passed n rows ks q k count d.q d.k
-Turn n rows ks q k count next.End = rest rows q (drop k ks) ≡ []
+      module _ (e : low (get_or keys k 0) ≡ q) where
+        pub pair-next : rest rows (q + 1) (drop k keys) ≡ high (get_or keys k 0) ∷ rest rows (q + 1) (drop (k + 1) keys)
+        pair-next = ap (rest rows (q + 1)) there ∙ pair_step (q + 1) (get_or keys k 0) (drop (k + 1) keys) (omega arith)
 
-module _ (n : ℕ) (rows keys : List ℕ) (count q k : ℕ) (fits : count ≤ length keys) (flags : Flags n rows)
-    (st : Stacked n rows 0 (drop k (take count keys))) (qr : q ≤ length rows) (kc : k ≤ count) where
-  abbrev ks : List ℕ
-  ks = take count keys
+        pub pair-stacked : Stacked n rows q (drop (k + 1) keys)
+        pair-stacked = rw e at here.3
 
-  row-turn : Stacked n rows q (drop k ks) → Turn n rows ks q k count (row_next rows q k)
-  row-turn a = by-ltb q (length rows) (λ (t : Bool). Turn n rows ks q k count (cond t (cond (eqb (get_or rows q 0) 1) (next.Name (qubit q) (cursor (q + 1) k)) (next.Pass (cursor (q + 1) k))) next.End)) inside (λ h. row-end n rows q (drop k ks) h a)
-    where
-      inside : q < length rows → Turn n rows ks q k count (cond (eqb (get_or rows q 0) 1) (next.Name (qubit q) (cursor (q + 1) k)) (next.Pass (cursor (q + 1) k)))
-      inside h =
-          by_eqb (get_or rows q 0) 1 (λ (t : Bool). Turn n rows ks q k count (cond t (next.Name (qubit q) (cursor (q + 1) k)) (next.Pass (cursor (q + 1) k))))
-          (λ e. record { is = row_step n rows q (drop k ks) h e a; named = flags q e; stacked = st; further = omega arith; row = omega arith; pair = kc })
-          (λ f. record { is = row-pass n rows q (drop k ks) h f a; stacked = st; further = omega arith; row = omega arith; pair = kc })
+      pub pairs-past : (low (get_or keys k 0) ≡ q → ⊥) → Stacked n rows (q + 1) (drop k keys)
+      pairs-past f = rw there (omega (arith, here.0, f), here.1, here.2, here.3)
 
-  there : k < count → drop k ks ≡ get_or keys k 0 ∷ drop (k + 1) ks
-  there h = drop-cons ks k 0 (rw (length-take-le count keys fits) h) ∙ rw (get_or-take count keys k 0 h, add-one k)
-
-  at_pair : k < count → Turn n rows ks q k count (cond (ltb (low (get_or keys k 0)) q) (next.Name (qubit (high (get_or keys k 0))) (cursor q (k + 1))) (row_next rows q k))
-  at_pair h =
-      by-ltb (low (get_or keys k 0)) q (λ (t : Bool). Turn n rows ks q k count (cond t (next.Name (qubit (high (get_or keys k 0))) (cursor q (k + 1))) (row_next rows q k)))
-      (λ l. record {
-        is = ap (rest rows q) (there h) ∙ pair_step n rows q (get_or keys k 0) (drop (k + 1) ks) l;
-        named = a.1;
-        stacked = stacked-down n rows 0 (low (get_or keys k 0)) (drop (k + 1) ks) (omega arith) a.3;
-        further = omega arith;
-        row = qr;
-        pair = omega arith;
-      })
-      (λ l. row-turn (rw (there h) (l, a.1, a.2, a.3)))
-    where
-      a : Stacked n rows 0 (get_or keys k 0 ∷ drop (k + 1) ks)
-      a = rw (there h) at st
-
-  pub turns : Turn n rows ks q k count (next_of rows keys count (cursor q k))
-  unfolding next_of
-  turns =
-      by-ltb k count (λ (t : Bool). Turn n rows ks q k count (cond t (cond (ltb (low (get_or keys k 0)) q) (next.Name (qubit (high (get_or keys k 0))) (cursor q (k + 1))) (row_next rows q k)) (row_next rows q k)))
-      at_pair
-      (λ h. row-turn (rw (drop_of_length-le ks {i = k} (rw (length-take-le count keys fits) h)) tt))
+    pub pairs-done : length keys ≤ k → Stacked n rows (q + 1) (drop k keys)
+    pairs-done h = rw (drop_of_length-le keys h) tt

@@ -3,7 +3,6 @@ pub mod Give
 pub mod Ran
 pub mod Samples
 pub mod Layout
-pub mod Code
 pub mod Laws
 pub mod Accepted
 pub mod Standing

@@ -1,6 +1,6 @@
 -- A run: the answer and the value table afterwards.
 -- Assumes nothing: these are definitions.
-use Rattle.std.specs.Prelude.{Bool, true, false, cond, List, [], ◌∷◌, ◌++◌, map, ℕ, suc, ◌-◌, eqb, ltb, ℤ, pos, length, drop, replicate}
+use Rattle.std.specs.Prelude.{Bool, true, false, cond, List, [], ◌∷◌, ◌++◌, map, ℕ, suc, ◌-◌, eqb, ltb, ℤ, pos, length, drop, replicate, Err, Ok}
 use Rattle.laws.specs.Equal.{eq_z}
 use Rattle.units.specs.declared.Form.{Form}
 use Rattle.units.specs.Halves.{energy_of}
@@ -11,22 +11,12 @@ use Rattle.numbering.specs.State.{State, qubit_of}
 use Rattle.numbering.specs.Numbered.{bad_gates}
 use Rattle.circuit.specs.Meaning.{circuit_of}
 use Rattle.store.specs.Tables.{Tables, model_of}
-use Rattle.run_values.specs.declared.Stop.{Stop}
-use Rattle.run_values.specs.declared.Stop.TheVariants as stop
 use Rattle.circuit.specs.declared.Refusal.{Refusal}
-use Rattle.circuit.specs.declared.Refusal.TheVariants.{FewValues, OtherCount, NoQubit, NotUsedUp, DivisorZero, NotGiven}
-use Rattle.run_outcome.specs.declared.Outcome.TheVariants.{Ran, Refused}
+use Rattle.circuit.specs.declared.Refusal.TheVariants.{FewValues, OtherCount}
+pub use Rattle.run_values.specs.Code.{refusal_of}
 use Rattle.run_outcome.specs.declared.Run.{Run}
 use Rattle.run_values.specs.Need.{Got, table, stopped, and_then, each, is_true, Net, need_of}
 use Rattle.run_meaning.specs.Give.{give_all}
-
--- ---- the refusal that a stop is
-
-abbrev pub refusal_of : Stop → Refusal
-refusal_of (stop.NoQubit g) = NoQubit g
-refusal_of (stop.NotUsedUp k) = NotUsedUp (record { 0 = k })
-refusal_of (stop.ZeroDivisor q) = DivisorZero q
-refusal_of (stop.NotGiven q) = NotGiven q
 
 -- ---- what a run starts from: the circuit, its numbering, and the finished model
 
@@ -96,11 +86,11 @@ abbrev pub listing : List ℕ → List ℕ
 listing ns = ns ++ replicate (64 - length ns) 0
 
 abbrev pub refusal : Refusal → Run
-refusal x = record { outcome = Refused x; nids = replicate 64 0; count = 0 }
+refusal x = record { outcome = Err x; nids = replicate 64 0; count = 0 }
 
 -- "A run is a hit when the energy is 0."
 abbrev pub answer : Form → ℤ → List ℕ → Run
-answer form h ns = record { outcome = Ran (energy_of h form) (eq_z h (pos 0)); nids = listing ns; count = length ns }
+answer form h ns = record { outcome = Ok (energy_of h form, eq_z h (pos 0)); nids = listing ns; count = length ns }
 
 -- "the value bytes of the model's qubits", unknown
 abbrev pub unknowns : Built → List ℕ

@@ -1,10 +1,9 @@
 -- The plain mathematics of the cycle of calls `need` and `follow`: what its needs ask, said of tables and not of places in the code.
---     rule-there, lists, count-asked, parts, operand-asked     what the calls in `follow` ask
+--     rule-there, lists, count-asked, parts, operand-asked, left, none_left, operand     what the calls in `follow` ask, and the operands by number
 --     Going, going_start, going-asked, going_on, going-stop, going_end    the loop over the operands: what is left to do from here is what there was to do
 --     had, was-fixed, by-rule      the three returns of `need`
 -- Assumes nothing.
 use mathlib.Core.Path.{◌≡◌, refl, sym, ap, ◌∙◌}
-use mathlib.Core.Bool.{true, false}
 use mathlib.Core.List.{List, [], ◌∷◌}
 use Prim.Native.Nat.{ℕ, suc, ◌+◌, ◌*◌, ◌≤◌, ◌<◌}
 use native.Mathlib.Omega.{arith}
@@ -16,15 +15,15 @@ use Rattle.circuit.specs.Meaning.{circuit_of}
 use Rattle.energy.specs.Circuit.{Circuit}
 use Rattle.units.specs.Name.{qubit}
 use Rattle.numbering.specs.State.{State}
-use Rattle.run_values.specs.declared.Went.{Went}
+use Rattle.run_values.specs.declared.Stop.{Stop}
 use Rattle.run_rules.specs.declared.Rule.{Rule}
 use Rattle.run_rules.specs.declared.Operands.{Operands}
 use Rattle.run_rules.specs.Rules.{Law, law_of, operands, depth}
-use Rattle.run_values.specs.Need.{Got, table, went, and_then, each, settle, follow, step, need_of}
+use Rattle.run_values.specs.Need.{Got, table, stopped, and_then, each, settle, follow, step, need_of}
 use Rattle.run_rules.specs.Layout.{AllLess}
 use Rattle.run_values.specs.Asking.{net, follow_of, Asked}
 use Rattle.run_rules.specs.Code.{meant, act_of, rule_at, RuleAsked, ListsAsked, operands_of, count_of, read, OperandAsked}
-use Rattle.run_values.specs.Code.{value_in, settled, PartsAsked, is_stop, fixed_bit, stop-now, go_on}
+use Rattle.run_values.specs.Code.{value_in, settled, PartsAsked, fixed_bit}
 use Rattle.run_values.specs.Fuel.{need_of-step}
 use Rattle.run_operands.proofs.Listed.{length-read}
 use Rattle.run_values.proofs.Means.{listed, Numbered, rule-means, rule-numbered, rule-asked, lists-asked, read-means, settle-means, parts-asked}
@@ -62,18 +61,28 @@ module _ {b starts : List ℕ} {bad_from : ℕ} {s : State} {fixed t₀ : List �
       pub count-asked : (o.few.n ≤ 3) × (o.first.bits ≤ 65536) × (o.second.bits ≤ 65536)
       count-asked = (both.1, omega (arith, both.0.short), omega (arith, both.0.short-too))
 
-      pub reads : read b s.qubits o ≡ operands law
+      reads : read b s.qubits o ≡ operands law
       reads = ap (read b s.qubits) eo ∙ read-means b starts bad_from a.ready.laid s.qubits r numbered ∙ ap operands law-is
 
-      pub count-is : count_of o ≡ length (operands law)
+      count-is : count_of o ≡ length (operands law)
       count-is = sym (length-read b s.qubits o both.1) ∙ ap length reads
+
+      -- the operands that are left, and the one of a turn
+      pub left : {i n : ℕ} → n ≡ count_of o → i < n → i < length (operands law)
+      left e h = omega (arith, count-is)
+
+      pub none_left : {i n : ℕ} → n ≡ count_of o → n ≤ i → length (operands law) ≤ i
+      none_left e h = omega (arith, count-is)
+
+      pub operand : {x : ℕ} (i : ℕ) → x ≡ get_or (read b s.qubits o) i 0 → x ≡ get_or (operands law) i 0
+      operand i e = e ∙ ap (λ (ops : List ℕ). get_or ops i 0) reads
 
       pub operand-asked : (i n : ℕ) → n ≡ count_of o → i < n → OperandAsked (length b) o i
       operand-asked i n e h = record { three = both.1; first = both.0.first; second = both.0.second; inside = omega arith }
 
-      pub settles : (t : List ℕ) → settled (value_in r o b s.qubits t) q t ≡ settle law q t
+      pub settles : (t : List ℕ) → settled (value_in r o b s.qubits t (qubit q)) q t ≡ settle law q t
       settles t =
-          ap (λ (p : Operands). settled (value_in r p b s.qubits t) q t) eo
+          ap (λ (p : Operands). settled (value_in r p b s.qubits t (qubit q)) q t) eo
           ∙ settle-means b starts bad_from a.ready.laid s.qubits r numbered q t
           ∙ ap (λ (l : Law). settle l q t) law-is
 
@@ -99,23 +108,18 @@ module _ {b starts : List ℕ} {bad_from : ℕ} {s : State} {fixed t₀ : List �
       let d : depth (circuit_of b) s x < depth (circuit_of b) s q = rw e l.1 in
       (omega arith, record { ready = g.asked.ready; values = omega (arith, g.asked.values, g.long); name = n })
 
-  turn : {x : ℕ} (w : Went) (u : List ℕ) → x ≡ get_or ops i 0 → went w u ≡ need_of (net b s fixed) x t
-      → and_then (went w u) (each (need_of (net b s fixed)) (drop (i + 1) ops)) ≡ each (need_of (net b s fixed)) ops t₀
+  turn : {x : ℕ} {z : Got} → x ≡ get_or ops i 0 → z ≡ need_of (net b s fixed) x t
+      → and_then z (each (need_of (net b s fixed)) (drop (i + 1) ops)) ≡ each (need_of (net b s fixed)) ops t₀
   unfolding each
-  turn {x} w u e k =
+  turn {x} e k =
       rw (k, e, add-one i) (ap (λ (l : List ℕ). each (need_of (net b s fixed)) l t) (sym (drop-cons ops i 0 more)) ∙ g.same)
 
-  pub going_on : {x : ℕ} (w : Went) (u : List ℕ) → x ≡ get_or ops i 0 → went w u ≡ need_of (net b s fixed) x t → is_stop w ≡ false → length u ≡ length t
-      → Going b starts bad_from s fixed t₀ q (i + 1) u
-  going_on {x} w u e k f l =
-      record { asked = g.asked; same = sym (go_on w u (each (need_of (net b s fixed)) (drop (i + 1) ops)) f) ∙ turn w u e k; long = l ∙ g.long }
+  pub going_on : {x : ℕ} {u : List ℕ} → x ≡ get_or ops i 0 → table u ≡ need_of (net b s fixed) x t → length u ≡ length t → Going b starts bad_from s fixed t₀ q (i + 1) u
+  going_on e k l = record { asked = g.asked; same = turn e k; long = l ∙ g.long }
 
-  pub going-stop : {x : ℕ} (w : Went) (u : List ℕ) → x ≡ get_or ops i 0 → went w u ≡ need_of (net b s fixed) x t → is_stop w ≡ true
-      → went w u ≡ follow_of (net b s fixed) q t₀
+  pub going-stop : {x : ℕ} {y : Stop} → x ≡ get_or ops i 0 → stopped y ≡ need_of (net b s fixed) x t → stopped y ≡ follow_of (net b s fixed) q t₀
   unfolding follow_of follow
-  going-stop {x} w u e k f =
-      let h : went w u ≡ each (need_of (net b s fixed)) ops t₀ = sym (stop-now w u u (each (need_of (net b s fixed)) (drop (i + 1) ops)) f) ∙ turn w u e k in
-      sym (stop-now w u u (settle (law_of (circuit_of b) s q) q) f) ∙ ap (λ (z : Got). and_then z (settle (law_of (circuit_of b) s q) q)) h
+  going-stop e k = ap (λ (z : Got). and_then z (settle (law_of (circuit_of b) s q) q)) (turn e k)
 
 -- all operands are found
 pub going_end : {b starts : List ℕ} {bad_from : ℕ} {s : State} {fixed t₀ : List ℕ} {q i : ℕ} {t : List ℕ} → Going b starts bad_from s fixed t₀ q i t
@@ -131,15 +135,17 @@ module _ {b starts : List ℕ} {bad_from : ℕ} {s : State} {fixed t : List ℕ}
   stepped : need_of (net b s fixed) q t ≡ step (net b s fixed) (need_of (net b s fixed)) q t
   stepped = need_of-step (net b s fixed) a.ready.formed q a.name t
 
+  -- the code looks at the entry p, which is q
+
   -- a value that is known
-  pub had : (get_or t q 0 ≡ 2 → ⊥) → table t ≡ need_of (net b s fixed) q t
+  pub had : {p : ℕ} → p ≡ q → (get_or t p 0 ≡ 2 → ⊥) → table t ≡ need_of (net b s fixed) q t
   unfolding step
-  had n = sym (stepped ∙ rw (ne_eqb (get_or t q 0) 2 n))
+  had z n = sym (stepped ∙ rw (ne_eqb (get_or t q 0) 2 (rw z at n)))
 
-  pub was-fixed : {v : ℕ} → get_or t q 0 ≡ 2 → (get_or fixed q 0 ≡ 0 → ⊥) → v ≡ fixed_bit (get_or fixed q 0) → table (set t q v) ≡ need_of (net b s fixed) q t
+  pub was-fixed : {p v : ℕ} → p ≡ q → get_or t p 0 ≡ 2 → (get_or fixed p 0 ≡ 0 → ⊥) → v ≡ fixed_bit (get_or fixed p 0) → table (set t p v) ≡ need_of (net b s fixed) q t
   unfolding step
-  was-fixed e n f = rw f (sym (stepped ∙ rw (eq-eqb (get_or t q 0) 2 e, ne_eqb (get_or fixed q 0) 0 n)))
+  was-fixed z e n f = rw (f, z) (sym (stepped ∙ rw (eq-eqb (get_or t q 0) 2 (rw z at e), ne_eqb (get_or fixed q 0) 0 (rw z at n))))
 
-  pub by-rule : {z : Got} → get_or t q 0 ≡ 2 → get_or fixed q 0 ≡ 0 → z ≡ follow_of (net b s fixed) q t → z ≡ need_of (net b s fixed) q t
+  pub by-rule : {p : ℕ} {z : Got} → p ≡ q → get_or t p 0 ≡ 2 → get_or fixed p 0 ≡ 0 → z ≡ follow_of (net b s fixed) q t → z ≡ need_of (net b s fixed) q t
   unfolding step follow_of
-  by-rule e n f = f ∙ sym (stepped ∙ rw (eq-eqb (get_or t q 0) 2 e, eq-eqb (get_or fixed q 0) 0 n))
+  by-rule z e n f = f ∙ sym (stepped ∙ rw (eq-eqb (get_or t q 0) 2 (rw z at e), eq-eqb (get_or fixed q 0) 0 (rw z at n)))

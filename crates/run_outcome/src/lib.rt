@@ -4,17 +4,10 @@
 use circuit::Refusal;
 use units::Energy;
 
-// The energy and the verdict, or why there is none.
-#[derive(Clone, Copy)]
-pub enum Outcome {
-    Ran(Energy, bool),
-    Refused(Refusal),
-}
-
-// The answer of a run: the true bad states are the first `count` of `nids`, in file order.
+// The answer of a run. Its outcome is the energy and the verdict, or why there is none; the true bad states are the first `count` of `nids`, in file order.
 #[derive(Clone, Copy)]
 pub struct Run {
-    pub outcome: Outcome,
+    pub outcome: Result<(Energy, bool), Refusal>,
     pub nids: [u64; 64],
     pub count: usize,
 }

@@ -1,6 +1,6 @@
 -- A rule as the code has it, with list numbers in the place of lists, and what it means: a `Law`.
 -- Assumes nothing: these are definitions.
-use Rattle.std.specs.Prelude.{Bool, false, not, ◌&&◌, ◌||◌, cond, List, [], ◌∷◌, ◌++◌, map, ◌≡◌, ℕ, ◌+◌, ◌*◌, ◌-◌, ◌≤◌, ◌<◌, eqb, ltb, length, get_or, take}
+use Rattle.std.specs.Prelude.{Option, Some, None, Bool, false, not, ◌&&◌, ◌||◌, cond, List, [], ◌∷◌, ◌++◌, map, ◌≡◌, ℕ, ◌+◌, ◌*◌, ◌-◌, ◌≤◌, ◌<◌, eqb, ltb, length, get_or, take}
 use Rattle.std.specs.Bool.{beq}
 use Rattle.penalty.specs.Rule.{parity, majority}
 use Rattle.circuit.specs.File.{field, kind_at, byte1}
@@ -60,27 +60,27 @@ result_rule kind.ResultFullAdder i n d x y z = rule.ResultFullAdder x y z
 result_rule kind.Quotient i n d x y z = rule.Quotient i n d
 result_rule kind.Remainder i n d x y z = rule.Remainder i n d
 
-abbrev pub adder_of : GateKind → Adder
-adder_of kind.ConstFalse = adder.Neither
-adder_of kind.ConstTrue = adder.Neither
-adder_of kind.InputBit = adder.Neither
-adder_of kind.Not = adder.Neither
-adder_of kind.And = adder.Neither
-adder_of kind.Nand = adder.Neither
-adder_of kind.Or = adder.Neither
-adder_of kind.Matriarch1 = adder.Neither
-adder_of kind.CarryHalfAdder = adder.Neither
-adder_of kind.ResultHalfAdder = adder.Half
-adder_of kind.CarryFullAdder = adder.Neither
-adder_of kind.ResultFullAdder = adder.Full
-adder_of kind.Quotient = adder.Neither
-adder_of kind.Remainder = adder.Neither
+abbrev pub adder_of : GateKind → Option Adder
+adder_of kind.ConstFalse = None
+adder_of kind.ConstTrue = None
+adder_of kind.InputBit = None
+adder_of kind.Not = None
+adder_of kind.And = None
+adder_of kind.Nand = None
+adder_of kind.Or = None
+adder_of kind.Matriarch1 = None
+adder_of kind.CarryHalfAdder = None
+adder_of kind.ResultHalfAdder = Some adder.Half
+adder_of kind.CarryFullAdder = None
+adder_of kind.ResultFullAdder = Some adder.Full
+adder_of kind.Quotient = None
+adder_of kind.Remainder = None
 
 -- of an adder one of two rules, of any other gate none
-abbrev pub by_adder : Adder → Rule → Rule → Rule
-by_adder adder.Neither h f = rule.Invalid
-by_adder adder.Half h f = h
-by_adder adder.Full h f = f
+abbrev pub by_adder : Option Adder → Rule → Rule → Rule
+by_adder None h f = rule.Invalid
+by_adder (Some adder.Half) h f = h
+by_adder (Some adder.Full) h f = f
 
 abbrev pub adder_rule : GateKind → Rule → Rule → Rule
 adder_rule k h f = by_adder (adder_of k) h f

@@ -8,6 +8,7 @@ pub mod apply;
 pub mod find;
 
 // The rules by the Rust's names. A division has its index and its lists' numbers.
+// Invalid, for a name that has none, stays a variant: `Law` of specs/Rules.antt has it, and `meant`, `act_of` and `rule_at` of specs/Code.antt and `settle` of run_values name it.
 #[derive(Clone, Copy)]
 pub enum Rule {
     Not(Qubit),
@@ -34,15 +35,15 @@ pub enum Rule {
     Invalid,
 }
 
-// Which adder a gate is, if any.
+// Which adder a gate is.
 #[derive(Clone, Copy)]
 pub enum Adder {
-    Neither,
     Half,
     Full,
 }
 
 // What a rule does once it has read its operands.
+// Nothing, what Invalid does, stays a variant: `act_of`, `ListsAsked` and `operands_by` of specs/Code.antt name it, and `value_as` of run_values.
 #[derive(Clone, Copy)]
 pub enum Act {
     Plain,
@@ -93,4 +94,18 @@ pub struct Reading {
     pub x: Qubit,
     pub y: Qubit,
     pub z: Qubit,
+}
+
+// What the values of a run rest on: the bytes of the circuit, where its lists and its bad states begin in them, the numbering, and the fixed values.
+// The tables by name are cut to 3G + B + 1 entries, for G gates and B bad states; `names` is the next free name.
+#[derive(Clone, Copy)]
+pub struct NumberedCircuit<'a> {
+    pub circuit: &'a [u8],
+    pub starts: &'a [u16],
+    pub bads: usize,
+    pub qubits: &'a [u16],
+    pub origins: &'a [u16],
+    pub roles: &'a [u8],
+    pub names: usize,
+    pub fixed: &'a [u8],
 }

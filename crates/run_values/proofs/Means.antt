@@ -3,6 +3,7 @@
 use mathlib.Core.Path.{◌≡◌, refl, sym, ap, ap₂, ◌∙◌}
 use mathlib.Core.Bool.{Bool, true, false, cond}
 use mathlib.Core.List.{List, ◌++◌, map}
+use Rattle.std.specs.Prelude.{Ok, Err}
 use Prim.Native.Nat.{ℕ, zero, suc, ◌+◌, ◌*◌, ◌-◌, ◌/◌, ◌%◌, ◌≤◌, ◌<◌}
 use native.Mathlib.Omega.{arith}
 use native.Mathlib.Nat.{add-zero}
@@ -22,7 +23,6 @@ use Rattle.run_rules.specs.declared.Rule.{Rule}
 use Rattle.run_rules.specs.declared.Rule.TheVariants as rule
 use Rattle.run_rules.specs.declared.Act.{Act}
 use Rattle.run_rules.specs.declared.Act.TheVariants as act
-use Rattle.run_values.specs.declared.settle.Value.TheVariants as value
 use Rattle.run_values.specs.declared.Stop.TheVariants.{ZeroDivisor}
 use Rattle.run_rules.specs.Rules.{Law, result_law, carry_law, aux_law, join_law, law_of, operands}
 use Rattle.run_values.specs.Need.{stopped, decide, put, bit_of, number, divided, settle}
@@ -237,17 +237,17 @@ module _ (b starts : List ℕ) (bad_from : ℕ) (laid : Laid b starts bad_from) 
     read-means rule.Invalid n = refl
 
     divided-means : (rest : Bool) (f : ℕ → ℕ → ℕ) → ((n d : ℕ) → cond rest (n % d) (n / d) ≡ f n d) → (i n d q : ℕ) (t : List ℕ)
-        → settled (divided_by rest i n d) q t ≡ divided f i n d q t
+        → settled (divided_by rest i n d (qubit q)) q t ≡ divided f i n d q t
     divided-means rest f e i n d q t = go (eqb d 0)
       where
-        go : (z : Bool) → settled (cond z value.ZeroDivisor (value.Known (bit_of i (cond rest (n % d) (n / d))))) q t
+        go : (z : Bool) → settled (cond z (Err (ZeroDivisor (qubit q))) (Ok (bit_of i (cond rest (n % d) (n / d))))) q t
             ≡ decide z (λ t. stopped (ZeroDivisor (qubit q))) (λ t. put q (bit_of i (f n d)) t) t
         go true = refl
         go false = ap (λ (m : ℕ). put q (bit_of i m) t) (e n d)
 
     -- and it settles a qubit as the law does
     pub settle-means : (r : Rule) → Numbered (act_of r) → (q : ℕ) (t : List ℕ)
-        → settled (value_in r (operands_of starts r) b qs t) q t ≡ settle (meant (listed b qs) r) q t
+        → settled (value_in r (operands_of starts r) b qs t (qubit q)) q t ≡ settle (meant (listed b qs) r) q t
     unfolding value_in settle
     settle-means (rule.Not x) n q t = refl
     settle-means (rule.And x y) n q t = refl
@@ -261,10 +261,10 @@ module _ (b starts : List ℕ) (bad_from : ℕ) (laid : Laid b starts bad_from) 
     settle-means (rule.ResultHalfAdder x y) n q t = refl
     settle-means (rule.ResultFullAdder x y z) n q t = refl
     settle-means (rule.Quotient i k l) n q t =
-        ap₂ (λ (x y : List ℕ). settled (divided_by false i (number t x) (number t y)) q t) (list-is k n.0) (list-is l n.1)
+        ap₂ (λ (x y : List ℕ). settled (divided_by false i (number t x) (number t y) (qubit q)) q t) (list-is k n.0) (list-is l n.1)
         ∙ divided-means false (λ a b. a / b) (λ n d. refl) i (number t (listed b qs k)) (number t (listed b qs l)) q t
     settle-means (rule.Remainder i k l) n q t =
-        ap₂ (λ (x y : List ℕ). settled (divided_by true i (number t x) (number t y)) q t) (list-is k n.0) (list-is l n.1)
+        ap₂ (λ (x y : List ℕ). settled (divided_by true i (number t x) (number t y) (qubit q)) q t) (list-is k n.0) (list-is l n.1)
         ∙ divided-means true (λ a b. a % b) (λ n d. refl) i (number t (listed b qs k)) (number t (listed b qs l)) q t
     settle-means rule.Invalid n q t = refl
 

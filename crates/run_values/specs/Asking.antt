@@ -2,8 +2,9 @@
 -- Assumes nothing: these are definitions.
 use Rattle.std.specs.Prelude.{List, ℕ, ◌≤◌, ◌<◌, length}
 use Rattle.circuit.specs.Meaning.{circuit_of}
-use Rattle.numbering.specs.State.{State}
+use Rattle.numbering.specs.State.{State, mk}
 use Rattle.run_rules.specs.Layout.{Laid, Formed}
+use Rattle.run_rules.specs.declared.NumberedCircuit.{NumberedCircuit}
 use Rattle.run_values.specs.Need.{Got, Net, follow, need_of}
 
 pub record Ready (b starts : List ℕ) (bad_from : ℕ) (s : State) (fixed : List ℕ) : Type 0 where
@@ -13,6 +14,13 @@ pub record Ready (b starts : List ℕ) (bad_from : ℕ) (s : State) (fixed : Lis
 
 abbrev pub net : List ℕ → State → List ℕ → Net
 net b s fixed = record { circuit = circuit_of b; state = s; fixed = fixed }
+
+-- the same, of what a run lends
+abbrev pub state_in : NumberedCircuit → State
+state_in u = mk u.qubits.now u.origins.now u.roles.now u.names
+
+abbrev pub net_in : NumberedCircuit → Net
+net_in u = net u.circuit.now (state_in u) u.fixed.now
 
 -- the value of q by its rule, whose operands are needed
 unfoldable pub follow_of : Net → ℕ → List ℕ → Got

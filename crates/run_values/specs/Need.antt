@@ -2,7 +2,7 @@
 -- "A qubit's value is the given one, else the fixed one, else its rule's, followed through its operands (all, left to right, dividend before divisor);
 -- a division reads its lists as unsigned and takes the index-th bit of the result."
 -- Assumes nothing: these are definitions.
-use Rattle.std.specs.Prelude.{Bool, true, false, not, ◌&&◌, ◌||◌, cond, List, [], ◌∷◌, ℕ, zero, suc, ◌+◌, ◌*◌, ◌/◌, ◌%◌, ◌^◌, eqb, get_or, set}
+use Rattle.std.specs.Prelude.{Bool, true, false, not, ◌&&◌, ◌||◌, cond, Result, Ok, Err, List, [], ◌∷◌, ℕ, zero, suc, ◌+◌, ◌*◌, ◌/◌, ◌%◌, ◌^◌, eqb, get_or, set}
 use Rattle.std.specs.Bool.{beq}
 use Rattle.penalty.specs.Rule.{parity, majority}
 use Rattle.energy.specs.Circuit.{Circuit}
@@ -10,8 +10,6 @@ use Rattle.units.specs.Name.{qubit}
 use Rattle.numbering.specs.State.{State}
 use Rattle.run_values.specs.declared.Stop.{Stop}
 use Rattle.run_values.specs.declared.Stop.TheVariants.{ZeroDivisor, NotGiven}
-use Rattle.run_values.specs.declared.Went.{Went}
-use Rattle.run_values.specs.declared.Went.TheVariants.{On, Stopped}
 use Rattle.run_rules.specs.Rules.{Law, Not, And, Nand, Matriarch1, Or, AuxHalfAdder, CarryHalfAdder, ResultHalfAdder, AuxFullAdder, CarryFullAdder, ResultFullAdder, Quotient, Remainder, Invalid, law_of, operands, depth}
 
 -- the value table, or why the run stops
@@ -20,9 +18,9 @@ pub data Got : Type 0 where
   stopped : Stop → Got
 
 -- what a step's answer and the table that it left say
-abbrev pub went : Went → List ℕ → Got
-went On t = table t
-went (Stopped x) t = stopped x
+abbrev pub went : Result (Unit {0}) Stop → List ℕ → Got
+went (Ok u) t = table t
+went (Err x) t = stopped x
 
 abbrev pub and_then : Got → (List ℕ → Got) → Got
 and_then (table t) f = f t

@@ -2,8 +2,9 @@
 #![tactic(auto)]
 
 ghost use Rattle.std.specs.Prelude.{◌≡◌};
-ghost use Rattle.run_values.specs.Code.{is_stop};
+ghost use Rattle.run_values.specs.Code.{refusal_of};
 
+use circuit::{Input, Refusal};
 use units::{Gate, Qubit};
 
 pub mod settle;
@@ -17,19 +18,15 @@ pub enum Stop {
     NotGiven(Qubit),
 }
 
-// A step of a run went on, or the run stopped there.
-#[derive(Clone, Copy)]
-pub enum Went {
-    On,
-    Stopped(Stop),
-}
+impl From<Stop> for Refusal {
+    ghost from_gives = { λ x r. r ≡ refusal_of x };
 
-// Whether the run stops.
-pub fn stops(w: Went) -> bool
-    ensures { result ≡ is_stop w }
-{
-    match w {
-        Went::On => false,
-        Went::Stopped(_) => true,
+    fn from(x: Stop) -> Refusal {
+        match x {
+            Stop::NoQubit(g) => Refusal::NoQubit(g),
+            Stop::NotUsedUp(k) => Refusal::NotUsedUp(Input(k)),
+            Stop::ZeroDivisor(q) => Refusal::DivisorZero(q),
+            Stop::NotGiven(q) => Refusal::NotGiven(q),
+        }
     }
 }

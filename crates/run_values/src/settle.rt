@@ -1,65 +1,34 @@
 // The value of a rule once its operands' values are found.
-ghost use Rattle.std.specs.Prelude.{◌≡◌, map, cond, ◌+◌, ◌*◌, ◌/◌, ◌%◌, ◌≤◌, ◌<◌, length};
-ghost use Rattle.run_values.specs.Need.{is_true, bit, bit_of, number, went};
+ghost use Rattle.std.specs.Prelude.{◌≡◌, map, ◌+◌, ◌*◌, ◌≤◌, ◌<◌, length};
+ghost use Rattle.run_values.specs.Need.{is_true, bit_of, number, went};
 ghost use Rattle.run_rules.specs.Layout.{named};
 ghost use Rattle.run_rules.specs.Code.{name_in};
 ghost use Rattle.run_values.specs.Code.{divided_by, value_in, settled, PartsAsked};
 
-use crate::{Stop, Went};
+use crate::Stop;
 use circuit_records::field_at;
 use run_operands::act_of;
 use run_rules::apply::value_by;
 use run_rules::find::qubit_of;
-use run_rules::{Act, Operands, Rule};
+use run_rules::{Act, NumberedCircuit, Operands, Part, Rule};
 use units::Qubit;
-
-// A rule's value, or why it has none.
-#[derive(Clone, Copy)]
-pub enum Value {
-    Known(bool),
-    ZeroDivisor,
-    NotGiven,
-}
 
 // Whether the value of q is 1.
 pub fn truth(values: &[u8], q: Qubit) -> bool
     ensures { result ≡ is_true values.now q.0 }
 {
-    let at = q.0 as usize;
-    if at < values.len() {
-        let v = values[at];
-        v == 1
-    } else {
-        false
-    }
+    values.get(usize::from(q.0)) == Some(&1)
 }
 
-// A value's byte.
-pub fn byte_of(b: bool) -> u8
-    ensures { result ≡ bit b }
-{
-    if b { 1 } else { 0 }
-}
-
-// A value as a number.
-fn word_of(b: bool) -> u64
-    ensures { result ≡ bit b }
-{
-    if b { 1 } else { 0 }
-}
-
-// The number that the bits of a list make, lowest first: `bits` records from `from` on.
-pub fn list_value(circuit: &[u8], qubits: &[u16], values: &[u8], from: usize, bits: usize) -> u64
-    requires { (16 * (from + bits) ≤ length circuit.now) × (bits ≤ 64) }
-    ensures { result ≡ number values.now (map (name_in qubits.now) (named circuit.now from bits)) }
+// The number that the bits of a list make, lowest first.
+pub fn list_value(on: &NumberedCircuit, values: &[u8], list: Part) -> u64
+    requires { (16 * (list.from + list.bits) ≤ length on.now.circuit.now) × (list.bits ≤ 64) }
+    ensures { result ≡ number values.now (map (name_in on.now.qubits.now) (named on.now.circuit.now list.from list.bits)) }
 {
     let mut sum: u64 = 0;
-    let mut i = bits;
-    while 0 < i {
-        i -= 1;
-        let g = field_at(circuit, from + i, 1);
-        let b = truth(values, qubit_of(qubits, g));
-        sum = word_of(b) + 2 * sum;
+    for i in (list.from..list.from + list.bits).rev() {
+        let q = qubit_of(on.qubits, field_at(on.circuit, i, 1));
+        sum = u64::from(truth(values, q)) + 2 * sum;
     }
     sum
 }
@@ -68,89 +37,64 @@ pub fn list_value(circuit: &[u8], qubits: &[u16], values: &[u8], from: usize, bi
 pub fn bit_at(n: u64, index: u8) -> bool
     ensures { result ≡ bit_of index n }
 {
-    if index < 64 {
-        let m = n >> index;
-        m % 2 == 1
-    } else {
-        false
-    }
+    index < 64 && (n >> index) % 2 == 1
 }
 
-fn rest_of(rest: bool, n: u64, d: u64) -> u64
-    requires { 0 < d }
-    ensures { result ≡ cond rest (n % d) (n / d) }
-{
-    if rest { n % d } else { n / d }
-}
-
-// A bit of the remainder or the quotient.
-fn divide(rest: bool, index: u8, n: u64, d: u64) -> Value
-    ensures { result ≡ divided_by rest index n d }
+// A bit of the remainder or the quotient, for the qubit q.
+fn divide(rest: bool, index: u8, n: u64, d: u64, q: Qubit) -> Result<bool, Stop>
+    ensures { result ≡ divided_by rest index n d q }
 {
     if d == 0 {
-        return Value::ZeroDivisor;
+        return Err(Stop::ZeroDivisor(q));
     }
-    Value::Known(bit_at(rest_of(rest, n, d), index))
+    Ok(bit_at(if rest { n % d } else { n / d }, index))
 }
 
-// The value of a rule with these operands.
-fn value_in(rule: Rule, o: Operands, circuit: &[u8], qubits: &[u16], values: &[u8]) -> Value
-    requires { PartsAsked (length circuit.now) o }
-    ensures { result ≡ value_in rule o circuit.now qubits.now values.now }
+// The value of q by its rule, which has these operands.
+#[tactic(auto, unfolding(crate::specs::Code::value_in))]
+fn value_in(
+    on: &NumberedCircuit,
+    rule: Rule,
+    o: Operands,
+    values: &[u8],
+    q: Qubit,
+) -> Result<bool, Stop>
+    requires { PartsAsked (length on.now.circuit.now) o }
+    ensures { result ≡ value_in rule o on.now.circuit.now on.now.qubits.now values.now q }
 {
-    let act = act_of(rule);
-    let few = o.few;
-    let first = o.first;
-    let second = o.second;
-    match act {
-        Act::Plain => {
-            let p = truth(values, few.x1);
-            let q = truth(values, few.x2);
-            let r = truth(values, few.x3);
-            Value::Known(value_by(rule, p, q, r))
+    match act_of(rule) {
+        Act::Plain => Ok(value_by(
+            rule,
+            truth(values, o.few.x1),
+            truth(values, o.few.x2),
+            truth(values, o.few.x3),
+        )),
+        Act::Quotient { index, .. } => {
+            let n = list_value(on, values, o.first);
+            let d = list_value(on, values, o.second);
+            divide(false, index, n, d, q)
         }
-        Act::Quotient {
-            index,
-            dividend: _,
-            divisor: _,
-        } => {
-            let n = list_value(circuit, qubits, values, first.from, first.bits);
-            let d = list_value(circuit, qubits, values, second.from, second.bits);
-            divide(false, index, n, d)
+        Act::Remainder { index, .. } => {
+            let n = list_value(on, values, o.first);
+            let d = list_value(on, values, o.second);
+            divide(true, index, n, d, q)
         }
-        Act::Remainder {
-            index,
-            dividend: _,
-            divisor: _,
-        } => {
-            let n = list_value(circuit, qubits, values, first.from, first.bits);
-            let d = list_value(circuit, qubits, values, second.from, second.bits);
-            divide(true, index, n, d)
-        }
-        Act::Nothing => Value::NotGiven,
+        Act::Nothing => Err(Stop::NotGiven(q)),
     }
 }
 
 // The value of q by its rule is remembered.
 pub fn settle(
+    on: &NumberedCircuit,
     rule: Rule,
     o: Operands,
-    circuit: &[u8],
-    qubits: &[u16],
     values: &mut [u8],
     q: Qubit,
-) -> Went
-    requires { PartsAsked (length circuit.now) o × (q.0 < length values.old) }
-    ensures { went result values.new ≡ settled (value_in rule o circuit.now qubits.now values.old) q.0 values.old }
+) -> Result<(), Stop>
+    requires { PartsAsked (length on.now.circuit.now) o × (q.0 < length values.old) }
+    ensures { went result values.new ≡ settled (value_in rule o on.now.circuit.now on.now.qubits.now values.old q) q.0 values.old }
 {
-    let v = value_in(rule, o, circuit, qubits, values);
-    match v {
-        Value::Known(b) => {
-            let at = q.0 as usize;
-            values[at] = byte_of(b);
-            Went::On
-        }
-        Value::ZeroDivisor => Went::Stopped(Stop::ZeroDivisor(q)),
-        Value::NotGiven => Went::Stopped(Stop::NotGiven(q)),
-    }
+    let value = value_in(on, rule, o, values, q)?;
+    values[usize::from(q.0)] = u8::from(value);
+    Ok(())
 }

@@ -1,12 +1,13 @@
 -- The loops that count and that sum an energy: what is counted or summed, and what is left, is the whole.
 -- Assumes nothing.
-use mathlib.Core.Bool.{Bool, true, false, cond, ◌||◌}
+use mathlib.Core.Bool.{Bool}
 use mathlib.Core.List.{List, [], ◌∷◌}
 use mathlib.Core.Path.{◌≡◌, refl, sym, ap, ap₂, ◌∙◌}
 use Prim.Native.Nat.{ℕ, suc, ◌+◌, ◌≤◌, ◌<◌}
 use native.Mathlib.Numerals.{add-one}
+use Rattle.std.proofs.Common.{add-zero, ◌≢◌, ◌⊎◌}
+use Rattle.std.proofs.lemmas.Bool.Decides.{nat_tests}
 use native.Mathlib.Omega.{arith}
-use lib.Dec.{eqb}
 use lib.IntN.{ℤ, pos, nat_abs, ◌+ℤ◌, +ℤ_assoc, +ℤ_idr}
 use lib.ListN.{length, take, drop, get_or, drop_of_length-le}
 use lib.Seq.{slice, slice-cons, slice_empty, drop-cons}
@@ -31,13 +32,6 @@ pub record Counting (h r : List ℕ) (n i : ℕ) : Type 0 where
   pub small : n ≤ i
   pub whole : n + counted (drop i h) (drop i r) ≡ counted h r
 
-one-small : (h r : List ℕ) (i : ℕ) → one_at h r i ≤ 1
-one-small h r i = go (eqb (get_or h i 0) 1 || eqb (get_or r i 0) 1)
-  where
-    go : (b : Bool) → cond b 1 0 ≤ 1
-    go true = omega arith
-    go false = omega arith
-
 counted_step : (h r : List ℕ) (i : ℕ) → i < length h → i < length r → counted (drop i h) (drop i r) ≡ one_at h r i + counted (drop (suc i) h) (drop (suc i) r)
 unfolding counted
 counted_step h r i a b = ap₂ counted (drop-cons h i 0 a) (drop-cons r i 0 b)
@@ -46,13 +40,20 @@ counted-nil : (r : List ℕ) → counted [] r ≡ 0
 unfolding counted
 counted-nil r = refl
 
-pub count_turn : {h r : List ℕ} {n i : ℕ} → Counting h r n i → length r ≡ length h → i < length h → (k : ℕ) → k ≡ one_at h r i → Counting h r (n + k) (i + 1)
-count_turn {h} {r} {n} {i} m same more k e =
-    record {
-      within = omega arith;
-      small = omega (arith, m.small, one-small h r i);
-      whole = rw add-one (omega (arith, m.whole, counted_step h r i more (omega arith)));
-    }
+module _ {h r : List ℕ} {n i : ℕ} (m : Counting h r n i) (same : length r ≡ length h) (more : i < length h) where
+  turn : (k : ℕ) → k ≤ 1 → one_at h r i ≡ k → Counting h r (n + k) (i + 1)
+  turn k few e =
+      record {
+        within = omega arith;
+        small = omega (arith, m.small);
+        whole = rw add-one (omega (arith, m.whole, counted_step h r i more (omega arith)));
+      }
+
+  pub counts : (get_or h i 0 ≡ 1) ⊎ (get_or r i 0 ≡ 1) → Counting h r (n + 1) (i + 1)
+  counts one = turn 1 (omega arith) (grind (arith, nat_tests))
+
+  pub skips : get_or h i 0 ≢ 1 → get_or r i 0 ≢ 1 → Counting h r n (i + 1)
+  skips a b = let e = turn 0 (omega arith) (grind (arith, nat_tests)) in rw add-zero at e
 
 pub count-done : {h r : List ℕ} {n i : ℕ} → Counting h r n i → length h ≤ i → n ≡ counted h r
 count-done {h} {r} {n} {i} m done =

@@ -1,3 +1,4 @@
 -- Lemmas that several proofs cite.
 pub mod Adding
 pub mod Energies
+pub mod Lent

@@ -3,6 +3,7 @@
 use Rattle.std.specs.Prelude.{◌||◌, cond, List, ◌≡◌, ℕ, ◌^◌, ◌≤◌, eqb, ℤ, pos, ◌+ℤ◌, length, take, set, get_or}
 use Rattle.energy.specs.Plain.{Setting}
 use Rattle.energy.specs.Model.{Entry, Model, Sized, is_zero, mass}
+use Rattle.store_pairs.specs.declared.Pairs.{Pairs}
 use Rattle.store_pairs.specs.Store.{zip, over}
 
 pub record Tables : Type 0 where
@@ -20,6 +21,10 @@ pub record Tables : Type 0 where
 abbrev pub tables : ℤ → List ℤ → List ℕ → List ℕ → List ℕ → List ℕ → List ℤ → ℕ → Tables
 tables offset linear has_linear has_row fixed keys weights count =
     record { offset = offset; linear = linear; has_linear = has_linear; has_row = has_row; fixed = fixed; entries = zip keys weights; count = count }
+
+-- the same, with the pair tables in one
+abbrev pub tables_with : ℤ → List ℤ → List ℕ → List ℕ → List ℕ → Pairs → ℕ → Tables
+tables_with offset linear has_linear has_row fixed pairs count = tables offset linear has_linear has_row fixed pairs.keys.now pairs.weights.now count
 
 -- the model that they hold
 abbrev pub model_of : Tables → Model

@@ -7,6 +7,8 @@ ghost use Rattle.store.specs.Tables.{tables, model_of, setting_of};
 ghost use Rattle.store.specs.Evaluating.{weight_in, joint_in, Pairs, Evaluating};
 
 use crate::Totals;
+use crate::linear::gated;
+use store_pairs::key::{high_of, low_of};
 use units::{Energy, Form, energy_of};
 
 fn value_at(values: &[u8], q: usize) -> bool
@@ -21,12 +23,9 @@ fn times(form: Form, on: bool, c: i64) -> i64
     requires { nat_abs c < 2 ^ 62 }
     ensures { result ≡ weight_in form on c }
 {
-    if on {
-        return c;
-    }
     match form {
-        Form::Binary => 0,
-        Form::Ising => -c,
+        Form::Binary => gated(on, c),
+        Form::Ising => { if on { c } else { -c } }
     }
 }
 
@@ -46,13 +45,10 @@ fn linear_energy(linear: &[i64], values: &[u8], form: Form) -> i64
     ensures { result ≡ linear_by (weight_in form) (setting_of values.now) 0 linear.now }
 {
     let mut e: i64 = 0;
-    let mut i = 0;
-    while i < linear.len() {
-        let c = linear[i];
+    for (i, c) in linear.iter().enumerate() {
         let on = value_at(values, i);
-        let x = times(form, on, c);
+        let x = times(form, on, *c);
         e += x;
-        i += 1;
     }
     e
 }
@@ -62,11 +58,11 @@ fn pair_value(key: u32, values: &[u8], form: Form) -> bool
     requires { (low key < length values.now) × (high key < length values.now) }
     ensures { result ≡ joint_in form (setting_of values.now (low key)) (setting_of values.now (high key)) }
 {
-    let low = (key / 65536) as usize;
-    let high = (key % 65536) as usize;
-    let a = value_at(values, low);
-    let b = value_at(values, high);
-    joint(form, a, b)
+    joint(
+        form,
+        value_at(values, low_of(key)),
+        value_at(values, high_of(key)),
+    )
 }
 
 // The energy of the first `n` pairs.
@@ -75,14 +71,10 @@ fn pair_energy(keys: &[u32], weights: &[i64], n: usize, values: &[u8], form: For
     ensures { result ≡ pairs_by (weight_in form) (joint_in form) (setting_of values.now) (take n (zip keys.now weights.now)) }
 {
     let mut e: i64 = 0;
-    let mut i = 0;
-    while i < n {
-        let c = weights[i];
-        let key = keys[i];
-        let on = pair_value(key, values, form);
-        let x = times(form, on, c);
+    for i in 0..n {
+        let on = pair_value(keys[i], values, form);
+        let x = times(form, on, weights[i]);
         e += x;
-        i += 1;
     }
     e
 }
@@ -99,9 +91,8 @@ pub fn energy_at(
     requires { Evaluating linear.now keys.now weights.now t values.now }
     ensures { (h rs f : List ℕ) → result ≡ energy_of (energy_in form (setting_of values.now) (model_of (tables t.offset linear.now h rs f keys.now weights.now t.count))) form }
 {
-    let n = t.count;
     let a = linear_energy(linear, values, form);
-    let b = pair_energy(keys, weights, n, values, form);
+    let b = pair_energy(keys, weights, t.count, values, form);
     let s = a + b;
     let e = t.offset + s;
     energy_of(e, form)

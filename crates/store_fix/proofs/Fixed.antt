@@ -53,21 +53,21 @@ module _ {o : ℤ} {l : List ℤ} {h r f ks : List ℕ} {ws : List ℤ} {n : ℕ
     pub sum-fits : {g : ℤ} → g ≡ gated on (get_or l₁ q (pos 0)) → SFits w64 (o +ℤ g)
     sum-fits {g} e = fits-abs w64 _ (omega (arith, offset-small, ap (λ (z : ℤ). nat_abs (o +ℤ z)) e))
 
-    pub all-fixed : (ks' : List ℕ) (ws' : List ℤ) (count mark : ℕ) (g o' : ℤ) {l₂ : List ℤ} {h₂ : List ℕ} → count ≡ length (without q (take n (zip ks ws)))
+    pub all-fixed : (ks' : List ℕ) (ws' : List ℤ) (count : ℕ) (g o' : ℤ) {l₂ : List ℤ} {h₂ r₂ f₂ : List ℕ} → count ≡ length (without q (take n (zip ks ws)))
         → zip ks' ws' ≡ over (without q (take n (zip ks ws))) n (zip ks ws)
-        → mark ≡ cond on 2 1 → g ≡ gated on (get_or l₁ q (pos 0)) → o' ≡ o +ℤ g → l₂ ≡ set l₁ q (pos 0) → h₂ ≡ set h₁ q 0
-        → tables o' l₂ h₂ (set r q 0) (set f q mark) ks' ws' count ≡ hold (fix q on m₀) (tables o l h r f ks ws n)
-    all-fixed ks' ws' count mark g o' {l₂} {h₂} ec et em eg eo el eh =
+        → g ≡ gated on (get_or l₁ q (pos 0)) → o' ≡ o +ℤ g → l₂ ≡ set l₁ q (pos 0) → h₂ ≡ set h₁ q 0 → r₂ ≡ set r q 0 → f₂ ≡ set f q (cond on 2 1)
+        → tables o' l₂ h₂ r₂ f₂ ks' ws' count ≡ hold (fix q on m₀) (tables o l h r f ks ws n)
+    all-fixed ks' ws' count g o' {l₂} {h₂} {r₂} {f₂} ec et eg eo el eh er ef =
         parts ∙ ap (λ (m : Model). hold m (tables o l h r f ks ws n)) fixed-is
       where
-        parts : tables o' l₂ h₂ (set r q 0) (set f q mark) ks' ws' count ≡ hold (clear q on (with_linear l₁ h₁ m₀)) (tables o l h r f ks ws n)
+        parts : tables o' l₂ h₂ r₂ f₂ ks' ws' count ≡ hold (clear q on (with_linear l₁ h₁ m₀)) (tables o l h r f ks ws n)
         parts i =
             record {
               offset = (eo ∙ ap (λ (z : ℤ). o +ℤ z) eg) i;
               linear = el i;
               has_linear = eh i;
-              has_row = set r q 0;
-              fixed = set f q (em i);
+              has_row = er i;
+              fixed = ef i;
               entries = et i;
               count = ec i;
             }

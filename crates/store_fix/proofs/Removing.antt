@@ -8,13 +8,14 @@ use native.Mathlib.Numerals.{add-one}
 use native.Mathlib.Omega.{arith}
 use lib.Dec.{eqb}
 use lib.IntN.{ℤ, pos, nat_abs}
-use lib.ListN.{length, take, drop, set, get_or, replicate, length-set}
+use lib.ListN.{length, take, drop, set, get_or, replicate}
 use lib.Seq.{slice, slice-cons, slice_empty, take-suc-set, drop-set-lt, append_snoc, length-take-le}
 use Rattle.energy.specs.Model.{Entry, Model, Inside, low, high, touches, neighbour, gated, give, without, add_linear, sizes}
 use Rattle.energy.specs.Mass.{sizes-at, abs-gated}
 use Rattle.store_pairs.specs.Store.{zip, none, load, over}
+use Rattle.std.specs.Prelude.{Some, None}
 use Rattle.store_pairs.specs.Over.{over-less}
-use Rattle.store_pairs.proofs.Tables.{length-zip, zip-at, zip-copy, slice_set}
+use Rattle.store_pairs.proofs.Tables.{length-zip, zip-at, slice_set}
 use Rattle.store.specs.Tables.{with_linear, gained, marked}
 use Rattle.store_fix.specs.Fixing.{end}
 use Rattle.store.proofs.Adding.{add-linear-is, gained-sizes}
@@ -27,7 +28,7 @@ pub record Touched (q k n at : ℕ) : Type 0 where
   pub other : at ≡ neighbour q k
   pub below : at < n
 
-module _ (q k n : ℕ) (rises : low k < high k) (inside : high k < n) (names : n ≤ 65536) where
+module _ (q k n : ℕ) (rises : low k < high k) (inside : high k < n) where
   neighbour-below : neighbour q k < n
   neighbour-below = go (eqb (low k) q)
     where
@@ -35,22 +36,21 @@ module _ (q k n : ℕ) (rises : low k < high k) (inside : high k < n) (names : n
       go true = inside
       go false = omega arith
 
-  pub is-touched : (at : ℕ) → at ≡ end q k → at < 65536 → Touched q k n at
-  is-touched at e h = go (touches q k) refl
+  pub is-touched : (at : ℕ) → Some at ≡ end q k → Touched q k n at
+  is-touched at e = go (touches q k) refl e
     where
-      go : (b : Bool) → touches q k ≡ b → Touched q k n at
-      go true t =
-          let o : at ≡ neighbour q k = e ∙ ap (λ (b : Bool). cond b (neighbour q k) 65536) t in
-          record { yes = t; other = o; below = omega (arith, neighbour-below) }
-      go false t = let o : at ≡ 65536 = e ∙ ap (λ (b : Bool). cond b (neighbour q k) 65536) t in absurd (omega arith)
+      go : (b : Bool) → touches q k ≡ b → Some at ≡ cond b (Some (neighbour q k)) None → Touched q k n at
+      go true t e =
+          let o : at ≡ neighbour q k = cc in
+          record { yes = t; other = o; below = omega (arith, o, neighbour-below) }
+      go false t e = let z : ⊥ = cc in absurd z
 
-  pub not-touched : (at : ℕ) → at ≡ end q k → 65536 ≤ at → touches q k ≡ false
-  not-touched at e h = go (touches q k) refl
+  pub not-touched : None ≡ end q k → touches q k ≡ false
+  not-touched e = go (touches q k) refl e
     where
-      go : (b : Bool) → touches q k ≡ b → b ≡ false
-      go true t =
-          let o : at ≡ neighbour q k = e ∙ ap (λ (b : Bool). cond b (neighbour q k) 65536) t in absurd (omega (arith, neighbour-below))
-      go false t = refl
+      go : (b : Bool) → touches q k ≡ b → None ≡ cond b (Some (neighbour q k)) None → touches q k ≡ false
+      go true t e = let z : ⊥ = cc in absurd z
+      go false t e = t
 
 -- ---- the definitions at one entry
 
@@ -86,7 +86,7 @@ pub record Removing (ks₀ : List ℕ) (ws₀ : List ℤ) (n q : ℕ) (on : Bool
   pub back : drop n (zip ks ws) ≡ drop n (zip ks₀ ws₀)
 
 module _ {ks₀ : List ℕ} {ws₀ : List ℤ} {n q : ℕ} {on : Bool} {l₀ : List ℤ} {h₀ : List ℕ} {ks : List ℕ} {ws : List ℤ} {l : List ℤ} {h : List ℕ} {m i : ℕ}
-    (fits : n ≤ length ks₀) (names : length l₀ ≤ 65536) (r : Removing ks₀ ws₀ n q on l₀ h₀ ks ws l h m i) (more : i < n) where
+    (fits : n ≤ length ks₀) (r : Removing ks₀ ws₀ n q on l₀ h₀ ks ws l h m i) (more : i < n) where
   -- the next entry, and those after it
   next : slice i n (zip ks ws) ≡ (get_or ks i 0, get_or ws i (pos 0)) ∷ slice (i + 1) n (zip ks ws)
   next =
@@ -102,21 +102,21 @@ module _ {ks₀ : List ℕ} {ws₀ : List ℤ} {n q : ℕ} {on : Bool} {l₀ : L
   next-load : load (slice i n (zip ks ws)) ≡ nat_abs (get_or ws i (pos 0)) + load (slice (i + 1) n (zip ks ws))
   next-load = ap load next
 
-  touched : (at : ℕ) → at ≡ end q (get_or ks i 0) → at < 65536 → Touched q (get_or ks i 0) (length l₀) at
-  touched = is-touched q (get_or ks i 0) (length l₀) next-inside.0 next-inside.1 names
+  touched : (at : ℕ) → Some at ≡ end q (get_or ks i 0) → Touched q (get_or ks i 0) (length l₀) at
+  touched = is-touched q (get_or ks i 0) (length l₀) next-inside.0 next-inside.1
 
   -- what giving asks
-  pub end_below : (at : ℕ) → at ≡ end q (get_or ks i 0) → at < 65536 → at < length l
-  end_below at e b = omega (arith, (touched at e b).below, r.linear)
+  pub end_below : (at : ℕ) → Some at ≡ end q (get_or ks i 0) → at < length l
+  end_below at e = omega (arith, (touched at e).below, r.linear)
 
   pub gift-small : load (take n (zip ks₀ ws₀)) + sizes l₀ ≤ 2 ^ 40 → (at : ℕ) → nat_abs (get_or l at (pos 0)) + nat_abs (get_or ws i (pos 0)) < 2 ^ 62
   gift-small small at = omega (arith, r.size, sizes-at l at, next-load)
 
-  pub removed : {l' : List ℤ} {h' : List ℕ} → length l' ≡ length l → length h' ≡ length h → (at : ℕ) → at ≡ end q (get_or ks i 0) → at < 65536
+  pub removed : {l' : List ℤ} {h' : List ℕ} → length l' ≡ length l → length h' ≡ length h → (at : ℕ) → Some at ≡ end q (get_or ks i 0)
       → l' ≡ gained at (gated on (get_or ws i (pos 0))) l → h' ≡ marked at (gated on (get_or ws i (pos 0))) h
       → Removing ks₀ ws₀ n q on l₀ h₀ ks ws l' h' m (i + 1)
-  removed {l'} {h'} ll lh at e small gl gh =
-      let t = touched at e small in
+  removed {l'} {h'} ll lh at e gl gh =
+      let t = touched at e in
       let w : ℤ = get_or ws i (pos 0) in
       let x : Entry = (get_or ks i 0, get_or ws i (pos 0)) in
       let s : List Entry = slice (i + 1) n (zip ks ws) in
@@ -142,16 +142,15 @@ module _ {ks₀ : List ℕ} {ws₀ : List ℤ} {n q : ℕ} {on : Bool} {l₀ : L
         back = r.back;
       }
 
-  pub stays : {ks' : List ℕ} {ws' : List ℤ} → (at : ℕ) → at ≡ end q (get_or ks i 0) → 65536 ≤ at → ks' ≡ set ks m (get_or ks i 0) → ws' ≡ set ws m (get_or ws i (pos 0))
+  pub stays : {ks' : List ℕ} {ws' : List ℤ} → None ≡ end q (get_or ks i 0) → length ks' ≡ length ks → length ws' ≡ length ws → zip ks' ws' ≡ set (zip ks ws) m (get_or (zip ks ws) i none)
       → Removing ks₀ ws₀ n q on l₀ h₀ ks' ws' l h (m + 1) (i + 1)
-  stays {ks'} {ws'} at e large ek ew =
-      let t : touches q (get_or ks i 0) ≡ false = not-touched q (get_or ks i 0) (length l₀) next-inside.0 next-inside.1 names at e large in
+  stays {ks'} {ws'} e lk lw written =
+      let t : touches q (get_or ks i 0) ≡ false = not-touched q (get_or ks i 0) (length l₀) next-inside.0 next-inside.1 e in
       let even : length ws ≡ length ks = r.weights ∙ sym r.keys in
       let all = length-zip ks ws even in
       let x : Entry = (get_or ks i 0, get_or ws i (pos 0)) in
       let s : List Entry = slice (i + 1) n (zip ks ws) in
-      let T' : zip ks' ws' ≡ set (zip ks ws) m (get_or ks i 0, get_or ws i (pos 0)) =
-      ap (λ (t : List ℕ). zip t ws') ek ∙ ap (zip (set ks m (get_or ks i 0))) ew ∙ zip-copy ks ws ks ws i m even ∙ ap (set (zip ks ws) m) (zip-at ks ws i even) in
+      let T' : zip ks' ws' ≡ set (zip ks ws) m (get_or ks i 0, get_or ws i (pos 0)) = written ∙ ap (set (zip ks ws) m) (zip-at ks ws i even) in
       let rest : slice (i + 1) n (zip ks' ws') ≡ slice (i + 1) n (zip ks ws) = ap (slice (i + 1) n) T' ∙ slice_set (zip ks ws) m (i + 1) n _ (omega arith) (omega arith) in
       let room : m < length (zip ks ws) = omega arith in
       let front : take (m + 1) (zip ks' ws') ≡ take m (zip ks ws) ++ (get_or ks i 0, get_or ws i (pos 0)) ∷ [] = ap (take (m + 1)) T' ∙ rw add-one (take-suc-set (zip ks ws) m (get_or ks i 0, get_or ws i (pos 0)) room) in
@@ -159,8 +158,8 @@ module _ {ks₀ : List ℕ} {ws₀ : List ℤ} {n q : ℕ} {on : Bool} {l₀ : L
       record {
         written = omega arith;
         within = omega arith;
-        keys = ap length ek ∙ simp length-set r.keys;
-        weights = ap length ew ∙ simp length-set r.weights;
+        keys = lk ∙ r.keys;
+        weights = lw ∙ r.weights;
         linear = r.linear;
         present = r.present;
         stay =

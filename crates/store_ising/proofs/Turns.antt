@@ -7,7 +7,7 @@ use native.Mathlib.Numerals.{add-one}
 use native.Mathlib.Omega.{arith}
 use lib.IntN.{ℤ, pos, negsuc, nat_abs, ◌+ℤ◌, +ℤ_assoc}
 use lib.ListN.{length, take, drop, set, get_or, length-set, take-append-drop}
-use lib.Seq.{slice, slice-cons, slice_empty, take-suc-set, drop-set-lt, append_snoc, take-length, length-take-le}
+use lib.Seq.{drop-cons, slice, slice-cons, slice_empty, take-suc-set, drop-set-lt, append_snoc, length-take-le}
 use mir.Syntax.{w64}
 use mir.Val.{SFits}
 use Rattle.laws.specs.Abs.{abs-add, fits-abs}
@@ -30,29 +30,29 @@ quarter-fits {z = negsuc n} f = let h = f.sfits in fits-abs w64 _ (omega (arith,
 
 -- ---- a sum: what is summed and what is left is the whole
 
-pub record Summing (cs : List ℤ) (n i : ℕ) (s : ℤ) : Type 0 where
-  pub within : i ≤ n
-  pub small : nat_abs s + sizes (slice i n cs) ≤ sizes (take n cs)
-  pub whole : s +ℤ sum (slice i n cs) ≡ sum (take n cs)
+pub record Summing (cs : List ℤ) (i : ℕ) (s : ℤ) : Type 0 where
+  pub within : i ≤ length cs
+  pub small : nat_abs s + sizes (drop i cs) ≤ sizes cs
+  pub whole : s +ℤ sum (drop i cs) ≡ sum cs
 
-module _ {cs : List ℤ} {n i : ℕ} {s : ℤ} (m : Summing cs n i s) (fits : n ≤ length cs) (more : i < n) where
-  sum-next : slice i n cs ≡ get_or cs i (pos 0) ∷ slice (i + 1) n cs
-  sum-next = rw add-one (slice-cons i n cs (pos 0) more fits)
+module _ {cs : List ℤ} {i : ℕ} {s : ℤ} (m : Summing cs i s) (more : i < length cs) where
+  sum-next : drop i cs ≡ get_or cs i (pos 0) ∷ drop (i + 1) cs
+  sum-next = rw add-one (drop-cons cs i (pos 0) more)
 
-  pub sum-small : nat_abs (s +ℤ get_or cs i (pos 0)) ≤ sizes (take n cs)
+  pub sum-small : nat_abs (s +ℤ get_or cs i (pos 0)) ≤ sizes cs
   sum-small = omega (arith, m.small, ap sizes sum-next, abs-add s (get_or cs i (pos 0)))
 
-  pub term-small : nat_abs (get_or cs i (pos 0)) ≤ sizes (take n cs)
+  pub term-small : nat_abs (get_or cs i (pos 0)) ≤ sizes cs
   term-small = omega (arith, m.small, ap sizes sum-next)
 
-  pub sum-turn : {t : ℤ} → t ≡ s +ℤ get_or cs i (pos 0) → Summing cs n (i + 1) t
+  pub sum-turn : {t : ℤ} → t ≡ s +ℤ get_or cs i (pos 0) → Summing cs (i + 1) t
   sum-turn {t} e =
       record {
         within = omega arith;
         small = omega (arith, m.small, ap sizes sum-next, abs-add s (get_or cs i (pos 0)), ap nat_abs e);
         whole =
-            ap (λ (z : ℤ). z +ℤ sum (slice (i + 1) n cs)) e
-            ∙ +ℤ_assoc s (get_or cs i (pos 0)) (sum (slice (i + 1) n cs))
+            ap (λ (z : ℤ). z +ℤ sum (drop (i + 1) cs)) e
+            ∙ +ℤ_assoc s (get_or cs i (pos 0)) (sum (drop (i + 1) cs))
             ∙ ap (λ (x : List ℤ). s +ℤ sum x) (sym sum-next)
             ∙ m.whole;
       }
@@ -222,12 +222,9 @@ module _ {l : List ℤ} {h ks : List ℕ} {ws : List ℤ} {t : Totals} (r : Turn
   pub offset-fits : SFits w64 t.offset
   offset-fits = fits-abs w64 _ (omega (arith, r.small))
 
-  module _ {a b : ℤ} (p : a ≡ sum (take (length l) l)) (q : b ≡ sum (take t.count ws)) where
-    a-is : a ≡ sum l
-    a-is = p ∙ ap sum (take-length l)
-
+  module _ {a b : ℤ} (p : a ≡ sum l) (q : b ≡ sum (take t.count ws)) where
     a_small : nat_abs (half a) ≤ 2 ^ 40
-    a_small = omega (arith, abs-half a, ap nat_abs a-is, sizes-sum l, r.small)
+    a_small = omega (arith, abs-half a, ap nat_abs p, sizes-sum l, r.small)
 
     b-small : nat_abs (quarter b) ≤ 2 ^ 40
     b-small = omega (arith, abs-quarter b, ap nat_abs q, sizes-sum (take t.count ws), weights-small)
@@ -239,7 +236,7 @@ module _ {l : List ℤ} {h ks : List ℕ} {ws : List ℤ} {t : Totals} (r : Turn
     all-fits = fits-abs w64 _ (omega (arith, abs-add t.offset (half a), abs-add (t.offset +ℤ half a) (quarter b), a_small, b-small, r.small))
 
     pub offset-is : t.offset +ℤ half a +ℤ quarter b ≡ t.offset +ℤ half (sum l) +ℤ quarter (sum (take t.count ws))
-    offset-is = ap₂ (λ (x y : ℤ). t.offset +ℤ half x +ℤ quarter y) a-is q
+    offset-is = ap₂ (λ (x y : ℤ). t.offset +ℤ half x +ℤ quarter y) p q
 
 pub all-turned : (o o' : ℤ) (l l₁ l₂ : List ℤ) (h h₂ r f ks : List ℕ) (ws ws' : List ℤ) (n : ℕ) → length ws ≡ length ks → n ≤ length ks
     → o' ≡ o +ℤ half (sum l) +ℤ quarter (sum (take n ws)) → l₁ ≡ map half l

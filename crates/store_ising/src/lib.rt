@@ -1,27 +1,25 @@
 // The Ising form. Each pair stands once in the tables, and is turned once.
 #![tactic(auto)]
 
-ghost use Rattle.std.specs.Prelude.{List, map, ◌≡◌, ℕ, ◌+◌, ◌^◌, ◌<◌, ◌≤◌, pos, length, take, set, get_or};
+ghost use Rattle.std.specs.Prelude.{List, map, ◌≡◌, ℕ, ◌^◌, ◌<◌, ◌≤◌, pos, length, take, set, get_or};
 ghost use Rattle.laws.specs.Sum.{sum};
-ghost use Rattle.energy.specs.Model.{Model, low, high, half, quarter, quarters, ends, ising, sizes};
+ghost use Rattle.energy.specs.Model.{Model, half, quarter, quarters, ends, ising, sizes};
 ghost use Rattle.store_pairs.specs.Store.{zip, over};
 ghost use Rattle.store.specs.Tables.{tables, model_of, hold, with_linear};
 ghost use Rattle.store_ising.specs.Turning.{Turning, Ends, Quartering, join_ends};
 
 use store::Totals;
 use store::linear::join_linear;
+use store_pairs::key::{high_of, low_of};
 
-// The sum of the first `n` coefficients.
-fn sum_of(cs: &[i64], n: usize) -> i64
-    requires { (n ≤ length cs.now) × (sizes (take n cs.now) ≤ 2 ^ 40) }
-    ensures { result ≡ sum (take n cs.now) }
+// The sum of coefficients.
+fn sum_of(cs: &[i64]) -> i64
+    requires { sizes cs.now ≤ 2 ^ 40 }
+    ensures { result ≡ sum cs.now }
 {
     let mut s: i64 = 0;
-    let mut i = 0;
-    while i < n {
-        let c = cs[i];
-        s += c;
-        i += 1;
+    for c in cs {
+        s += *c;
     }
     s
 }
@@ -30,12 +28,8 @@ fn sum_of(cs: &[i64], n: usize) -> i64
 fn halve_all(cs: &mut [i64])
     ensures { cs.new ≡ map half cs.old }
 {
-    let mut i = 0;
-    while i < cs.len() {
-        let c = cs[i];
-        let h = c / 2;
-        cs[i] = h;
-        i += 1;
+    for c in cs.iter_mut() {
+        *c /= 2;
     }
 }
 
@@ -45,8 +39,7 @@ fn quarter_at(weights: &mut [i64], i: usize) -> i64
     ensures value { result ≡ quarter (get_or weights.old i (pos 0)) }
     ensures weights_after { weights.new ≡ set weights.old i result }
 {
-    let w = weights[i];
-    let c = w / 4;
+    let c = weights[i] / 4;
     weights[i] = c;
     c
 }
@@ -56,10 +49,8 @@ fn join_ends(linear: &mut [i64], present: &mut [u8], key: u32, c: i64)
     requires { Ends linear.old present.old key c }
     ensures { (m : Model) → with_linear linear.new present.new m ≡ join_ends (key, c) (with_linear linear.old present.old m) }
 {
-    let low = (key / 65536) as usize;
-    let high = (key % 65536) as usize;
-    join_linear(linear, present, low, c);
-    join_linear(linear, present, high, c);
+    join_linear(linear, present, low_of(key), c);
+    join_linear(linear, present, high_of(key), c);
 }
 
 // Each of the first `n` pairs becomes its quarter, which joins both ends.
@@ -68,12 +59,9 @@ fn turn_pairs(keys: &[u32], weights: &mut [i64], n: usize, linear: &mut [i64], p
     ensures weights_after { zip keys.now weights.new ≡ over (quarters (take n (zip keys.now weights.old))) n (zip keys.now weights.old) }
     ensures m_after { (m : Model) → with_linear linear.new present.new m ≡ ends (quarters (take n (zip keys.now weights.old))) (with_linear linear.old present.old m) }
 {
-    let mut i = 0;
-    while i < n {
-        let key = keys[i];
+    for i in 0..n {
         let c = quarter_at(weights, i);
-        join_ends(linear, present, key, c);
-        i += 1;
+        join_ends(linear, present, keys[i], c);
     }
 }
 
@@ -89,13 +77,12 @@ pub fn to_ising(
     ensures { (rs f : List ℕ) → tables result.offset linear.new present.new rs f keys.now weights.new result.count ≡ hold (ising (model_of (tables t.offset linear.old present.old rs f keys.now weights.old t.count))) (tables t.offset linear.old present.old rs f keys.now weights.old t.count) }
 {
     let n = t.count;
-    let a = sum_of(linear, linear.len());
-    let b = sum_of(weights, n);
+    let a = sum_of(linear);
+    let b = sum_of(&weights[..n]);
     halve_all(linear);
     turn_pairs(keys, weights, n, linear, present);
-    let h = a / 2;
-    let q = b / 4;
-    let s = t.offset + h;
-    let offset = s + q;
-    Totals { offset, count: n }
+    Totals {
+        offset: t.offset + a / 2 + b / 4,
+        ..t
+    }
 }

@@ -1,3 +1,4 @@
 -- Lemmas that several proofs cite.
 pub mod Tables
 pub mod Filling
+pub mod Entries

@@ -3,3 +3,4 @@ pub mod Store
 pub mod Laws
 pub mod Samples
 pub mod Over
+pub mod Tables

@@ -2,8 +2,8 @@
 ghost use Rattle.std.specs.Prelude.{List, ◌≡◌, ℕ, ◌+◌, ◌≤◌, ℤ};
 ghost use Rattle.penalty.specs.Rows.{singles, twos};
 ghost use Rattle.energy.specs.Model.{Model, key_of, add_linears, sizes};
-ghost use Rattle.store_pairs.specs.Store.{zip};
-ghost use Rattle.store.specs.Tables.{tables, model_of, with_linear, hold};
+ghost use Rattle.store_pairs.specs.Tables.{entries_of, SameTables};
+ghost use Rattle.store.specs.Tables.{tables, tables_with, model_of, with_linear, hold};
 ghost use Rattle.store_place.specs.Wiring.{slots_of, firsts, seconds};
 ghost use Rattle.store_place.specs.Logged.{log_pair, log_pairs, logged};
 ghost use Rattle.store_place.specs.Room.{Pairing, Singles, Twos, Placing, Longer, filled_by, filled};
@@ -12,41 +12,59 @@ use crate::Wires;
 use penalty::Penalty;
 use store::Totals;
 use store::linear::{add_linear, join_linear};
-use store_pairs::log::append;
+use store_pairs::Pairs;
 
 // The key of two qubits, the lower first.
 fn key_of(p: u16, q: u16) -> u32
     ensures { result ≡ key_of p q }
 {
-    let a = p as u32;
-    let b = q as u32;
-    if a < b { a * 65536 + b } else { b * 65536 + a }
+    u32::from(p.min(q)) * 65536 + u32::from(p.max(q))
 }
 
 // The qubits at the slots of a penalty's linear coefficients, and at the first and the second slot of its pairs, in the order of its arrays.
 fn ones_of(w: Wires) -> [u16; 6]
     ensures { result ≡ firsts (slots_of w) singles }
 {
-    [w.x1.0, w.x2.0, w.x3.0, w.z.0, w.a.0, w.k.0]
+    let Wires {
+        x1,
+        x2,
+        x3,
+        z,
+        a,
+        k,
+    } = w;
+    [x1.0, x2.0, x3.0, z.0, a.0, k.0]
 }
 
 fn firsts_of(w: Wires) -> [u16; 15]
     ensures { result ≡ firsts (slots_of w) twos }
 {
+    let Wires {
+        x1,
+        x2,
+        x3,
+        z,
+        a,
+        ..
+    } = w;
     [
-        w.x1.0, w.x1.0, w.x1.0, w.x1.0, w.x1.0, w.x2.0, w.x2.0, w.x2.0, w.x2.0, w.x3.0, w.x3.0, w
-            .x3
-            .0, w.z.0, w.z.0, w.a.0,
+        x1.0, x1.0, x1.0, x1.0, x1.0, x2.0, x2.0, x2.0, x2.0, x3.0, x3.0, x3.0, z.0, z.0, a.0,
     ]
 }
 
 fn seconds_of(w: Wires) -> [u16; 15]
     ensures { result ≡ seconds (slots_of w) twos }
 {
+    let Wires {
+        x2,
+        x3,
+        z,
+        a,
+        k,
+        ..
+    } = w;
     [
-        w.x2.0, w.x3.0, w.z.0, w.a.0, w.k.0, w.x3.0, w.z.0, w.a.0, w.k.0, w.z.0, w.a.0, w.k.0, w
-            .a
-            .0, w.k.0, w.k.0,
+        x2.0, x3.0, z.0, a.0, k.0, x3.0, z.0, a.0, k.0, z.0, a.0, k.0, a.0, k.0, k.0,
     ]
 }
 
@@ -55,16 +73,16 @@ fn add_pair(
     linear: &mut [i64],
     present: &mut [u8],
     rows: &mut [u8],
-    keys: &mut [u32],
-    weights: &mut [i64],
+    pairs: &mut Pairs,
     n: usize,
     p: u16,
     q: u16,
     c: i64,
 ) -> usize
-    requires { Pairing linear.old present.old rows.old keys.old weights.old n p q c }
-    ensures result_after { (o : ℤ) (f : List ℕ) → model_of (tables o linear.new present.new rows.new f keys.new weights.new result) ≡ log_pair p q c (model_of (tables o linear.old present.old rows.old f keys.old weights.old n)) }
-    ensures longer { Longer n result (filled_by c) (zip keys.old weights.old) (zip keys.new weights.new) }
+    requires { Pairing linear.old present.old rows.old pairs.old.keys.now pairs.old.weights.now n p q c }
+    ensures result_after { (o : ℤ) (f : List ℕ) → model_of (tables_with o linear.new present.new rows.new f pairs.new result) ≡ log_pair p q c (model_of (tables_with o linear.old present.old rows.old f pairs.old n)) }
+    ensures longer { Longer n result (filled_by c) (entries_of pairs.old) (entries_of pairs.new) }
+    ensures same { SameTables pairs.old pairs.new }
 {
     if c == 0 {
         return n;
@@ -78,7 +96,7 @@ fn add_pair(
     let key = key_of(p, q);
     rows[j] = 1;
     rows[i] = 1;
-    append(keys, weights, n, key, c)
+    pairs.append(n, key, c)
 }
 
 // Each linear coefficient of a penalty, in halves, joins the linear entry of the qubit at its slot.
@@ -102,15 +120,15 @@ fn place_pairs(
     linear: &mut [i64],
     present: &mut [u8],
     rows: &mut [u8],
-    keys: &mut [u32],
-    weights: &mut [i64],
+    pairs: &mut Pairs,
     n: usize,
     w: Wires,
     cs: [i64; 15],
 ) -> usize
-    requires { Twos linear.old present.old rows.old keys.old weights.old n (slots_of w) cs }
-    ensures result_after { (o : ℤ) (f : List ℕ) → model_of (tables o linear.new present.new rows.new f keys.new weights.new result) ≡ log_pairs (slots_of w) twos cs (model_of (tables o linear.old present.old rows.old f keys.old weights.old n)) }
-    ensures longer { Longer n result (filled cs) (zip keys.old weights.old) (zip keys.new weights.new) }
+    requires { Twos linear.old present.old rows.old pairs.old.keys.now pairs.old.weights.now n (slots_of w) cs }
+    ensures result_after { (o : ℤ) (f : List ℕ) → model_of (tables_with o linear.new present.new rows.new f pairs.new result) ≡ log_pairs (slots_of w) twos cs (model_of (tables_with o linear.old present.old rows.old f pairs.old n)) }
+    ensures longer { Longer n result (filled cs) (entries_of pairs.old) (entries_of pairs.new) }
+    ensures same { SameTables pairs.old pairs.new }
 {
     let ps = firsts_of(w);
     let qs = seconds_of(w);
@@ -120,7 +138,7 @@ fn place_pairs(
         let q = qs[j];
         let c = cs[j];
         let h = c + c;
-        m = add_pair(linear, present, rows, keys, weights, m, p, q, h);
+        m = add_pair(linear, present, rows, pairs, m, p, q, h);
     }
     m
 }
@@ -141,10 +159,8 @@ pub fn place(
 {
     let h = p.offset + p.offset;
     let offset = t.offset + h;
-    let n = t.count;
-    let linears = p.linear;
-    let twos = p.pairs;
-    place_linear(linear, present, w, linears);
-    let count = place_pairs(linear, present, rows, keys, weights, n, w, twos);
+    place_linear(linear, present, w, p.linear);
+    let mut pairs = Pairs { keys, weights };
+    let count = place_pairs(linear, present, rows, &mut pairs, t.count, w, p.pairs);
     Totals { offset, count }
 }

@@ -19,8 +19,8 @@ use Rattle.laws.specs.Abs.{abs-add, fits-abs}
 use Rattle.energy.specs.Model.{Entry, Model, low, high, gated, add_linear, add_offset, mass}
 use Rattle.energy.specs.Mass.{sizes-at, abs-gated, offset-within}
 use Rattle.energy.specs.Once.{enter, keep, sift, mass-sift}
-use Rattle.store_pairs.specs.Store.{zip}
-use Rattle.store_pairs.proofs.Tables.{length-zip, zip-at, zip-copy}
+use Rattle.store_pairs.specs.Store.{zip, none}
+use Rattle.store_pairs.proofs.Tables.{length-zip, zip-at}
 use Rattle.store.specs.declared.Totals.{Totals}
 use Rattle.store.specs.Tables.{tables, model_of, gained, marked}
 use Rattle.store.proofs.Adding.{add-linear-is}
@@ -86,10 +86,10 @@ module _ {q : ℕ} {t : Totals} {l : List ℤ} {h r f : List ℕ} (e : MayEnter 
   pub enter-fits : {g : ℤ} → g ≡ gated on (get_or l q (pos 0)) → SFits w64 (t.offset +ℤ g)
   enter-fits {g} eg = fits-abs w64 _ (omega (arith, enter-small, ap (λ (z : ℤ). nat_abs (t.offset +ℤ z)) eg))
 
-  pub entered : (g o : ℤ) (mark : ℕ) {l' : List ℤ} {h' : List ℕ} → g ≡ gated on (get_or l q (pos 0)) → o ≡ t.offset +ℤ g → l' ≡ set l q (pos 0) → h' ≡ set h q 0 → mark ≡ cond on 2 1
-      → (s : List Entry) → model_by o l' h' (set r q 0) (set f q mark) s ≡ enter q on (model_by t.offset l h r f s)
-  entered g o mark eg eo el eh em s i =
-      record { offset = (eo ∙ ap (λ (z : ℤ). t.offset +ℤ z) eg) i; linear = el i; has_linear = eh i; has_row = set r q 0; fixed = set f q (em i); pairs = s }
+  pub entered : (g o : ℤ) {l' : List ℤ} {h' r' f' : List ℕ} → g ≡ gated on (get_or l q (pos 0)) → o ≡ t.offset +ℤ g → l' ≡ set l q (pos 0) → h' ≡ set h q 0 → r' ≡ set r q 0 → f' ≡ set f q (cond on 2 1)
+      → (s : List Entry) → model_by o l' h' r' f' s ≡ enter q on (model_by t.offset l h r f s)
+  entered g o eg eo el eh er ef s i =
+      record { offset = (eo ∙ ap (λ (z : ℤ). t.offset +ℤ z) eg) i; linear = el i; has_linear = eh i; has_row = er i; fixed = ef i; pairs = s }
 
 -- ---- a pair's turn
 
@@ -117,12 +117,10 @@ module _ {f : List ℕ} {l : List ℤ} {h ks : List ℕ} {ws : List ℤ} {i : �
   w = get_or ws i (pos 0)
 
   -- it stays
-  module _ {ks' : List ℕ} {ws' : List ℤ} (ek : ks' ≡ set ks t.count k) (ew : ws' ≡ set ws t.count w) where
+  module _ (ks' : List ℕ) (ws' : List ℤ) (copied : zip ks' ws' ≡ set (zip ks ws) t.count (get_or (zip ks ws) i none)) where
     written : zip ks' ws' ≡ set (zip ks ws) t.count (k, w)
     written =
-        ap₂ (λ (a : List ℕ) (b : List ℤ). zip a b) ek ew
-        ∙ zip-copy ks ws ks ws i t.count turn.even
-        ∙ ap (set (zip ks ws) t.count) (zip-at ks ws i turn.even)
+        copied ∙ ap (set (zip ks ws) t.count) (zip-at ks ws i turn.even)
 
     pub behind-stays : drop (i + 1) (zip ks' ws') ≡ drop (i + 1) (zip ks ws)
     behind-stays = ap (drop (i + 1)) written ∙ drop-set-lt (i + 1) (zip ks ws) t.count (k, w) (omega (arith, turn.behind))

@@ -5,7 +5,7 @@ ghost use Rattle.energy.specs.Once.{enter};
 ghost use Rattle.store_sift.specs.Sifting.{model_by, MayEnter};
 
 use store::Totals;
-use store_fix::fix::{clear_linear, mark_of};
+use store_fix::fix::enter;
 use units::Qubit;
 
 // Enters the value of `q`.
@@ -21,12 +21,9 @@ pub fn enter_value(
     requires { MayEnter q.0 t linear.old present.old rows.old fixed.old }
     ensures { (result.count ≡ t.count) × ((s : List Entry) → model_by result.offset linear.new present.new rows.new fixed.new s ≡ enter q.0 on (model_by t.offset linear.old present.old rows.old fixed.old s)) }
 {
-    let at = q.0 as usize;
-    let mark = mark_of(on);
-    rows[at] = 0;
-    fixed[at] = mark;
-    let given = clear_linear(linear, present, at, on);
-    let offset = t.offset + given;
-    let count = t.count;
-    Totals { offset, count }
+    let given = enter(linear, present, rows, fixed, q, on);
+    Totals {
+        offset: t.offset + given,
+        ..t
+    }
 }

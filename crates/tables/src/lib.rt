@@ -3,53 +3,20 @@
 
 ghost use Rattle.std.specs.Prelude.{◌≡◌, pos, length, replicate};
 
+// The library's `fill` at bytes, with one clause in place of its five: callers' proofs cite it.
 pub fn fill_u8(t: &mut [u8], x: u8)
     ensures { t.new ≡ replicate (length t.old) x }
 {
-    let mut i = 0;
-    while i < t.len() {
-        t[i] = x;
-        i += 1;
-    }
-}
-
-pub fn zero_u16(t: &mut [u16])
-    ensures { t.new ≡ replicate (length t.old) 0 }
-{
-    let mut i = 0;
-    while i < t.len() {
-        t[i] = 0;
-        i += 1;
-    }
-}
-
-pub fn zero_u32(t: &mut [u32])
-    ensures { t.new ≡ replicate (length t.old) 0 }
-{
-    let mut i = 0;
-    while i < t.len() {
-        t[i] = 0;
-        i += 1;
-    }
-}
-
-pub fn zero_i64(t: &mut [i64])
-    ensures { t.new ≡ replicate (length t.old) (pos 0) }
-{
-    let mut i = 0;
-    while i < t.len() {
-        t[i] = 0;
-        i += 1;
-    }
+    t.fill(x);
 }
 
 // The tables of names.
 pub fn clear_names(qubits: &mut [u16], origins: &mut [u16], roles: &mut [u8])
     ensures { (qubits.new ≡ replicate (length qubits.old) 0) × (origins.new ≡ replicate (length origins.old) 0) × (roles.new ≡ replicate (length roles.old) 0) }
 {
-    zero_u16(qubits);
-    zero_u16(origins);
-    fill_u8(roles, 0);
+    qubits.fill(0);
+    origins.fill(0);
+    roles.fill(0);
 }
 
 // The tables of the model.
@@ -63,10 +30,10 @@ pub fn clear_model(
 )
     ensures { (linear.new ≡ replicate (length linear.old) (pos 0)) × (present.new ≡ replicate (length present.old) 0) × (rows.new ≡ replicate (length rows.old) 0) × (fixed.new ≡ replicate (length fixed.old) 0) × (keys.new ≡ replicate (length keys.old) 0) × (weights.new ≡ replicate (length weights.old) (pos 0)) }
 {
-    zero_i64(linear);
-    fill_u8(present, 0);
-    fill_u8(rows, 0);
-    fill_u8(fixed, 0);
-    zero_u32(keys);
-    zero_i64(weights);
+    linear.fill(0);
+    present.fill(0);
+    rows.fill(0);
+    fixed.fill(0);
+    keys.fill(0);
+    weights.fill(0);
 }

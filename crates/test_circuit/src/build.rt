@@ -16,8 +16,8 @@ pub struct Group {
 }
 
 fn put_byte(bytes: &mut [u8], at: usize, value: usize) {
-    if at < bytes.len() {
-        bytes[at] = (value % 256) as u8;
+    if let Some(byte) = bytes.get_mut(at) {
+        *byte = (value % 256) as u8;
     }
 }
 
@@ -67,16 +67,10 @@ fn stepped(b: usize, rise: usize) -> usize {
 pub fn fill(bytes: &mut [u8], n: usize, g: Group) -> usize {
     let first = small(n);
     let count = small(g.count);
-    let every = g.every;
-    let low = g.a;
-    let rise = g.rise;
     let mut b = g.b;
-    let mut i: usize = 0;
-    while i < count {
-        let a = rising(low, i, every);
-        put(bytes, first + i, g, a, b);
-        b = stepped(b, rise);
-        i += 1;
+    for i in 0..count {
+        put(bytes, first + i, g, rising(g.a, i, g.every), b);
+        b = stepped(b, g.rise);
     }
     first + count
 }

@@ -18,11 +18,7 @@ pub fn step(at: usize) -> usize
 pub fn is_digit(s: &[u8], at: usize) -> bool
     ensures { result ≡ true → at < length s.now }
 {
-    if at < s.len() {
-        let b = s[at];
-        return (48 <= b) & (b <= 57);
-    }
-    false
+    s.get(at).is_some_and(|b| b.is_ascii_digit())
 }
 
 fn grown(value: usize, digit: u8) -> usize
@@ -35,29 +31,32 @@ fn grown(value: usize, digit: u8) -> usize
 pub fn number(s: &[u8], at: usize) -> Parsed
     ensures { result.value < 1000000 }
 {
-    let mut value: usize = 0;
-    let mut i = at;
-    while is_digit(s, i) {
+    let mut value = 0;
+    for i in at..s.len() {
+        if !s[i].is_ascii_digit() {
+            return Parsed {
+                value,
+                next: step(i),
+            };
+        }
         value = grown(value, s[i]);
-        i += 1;
     }
     Parsed {
         value,
-        next: step(i),
+        next: step(at.max(s.len())),
     }
 }
 
-// The first place from `at` on that has the byte, or the end.
+// The first place from `at` on that has the byte, or the end. A loop: with `position`, what is ensured of the places before the first was not found alone, and here one
+// line of an invariant is enough.
 pub fn find(s: &[u8], at: usize, byte: u8) -> usize
     ensures lower_bound { (at ≤ result) × ((k : ℕ) → at ≤ k → k < result → get_or s.now k 0 ≢ byte) }
     ensures result_value { (result < length s.now → get_or s.now result 0 ≡ byte) × (at ≤ length s.now → result ≤ length s.now) }
 {
-    let mut i = at;
-    while i < s.len() {
+    for i in at..s.len() {
         if s[i] == byte {
             return i;
         }
-        i += 1;
     }
-    i
+    at.max(s.len())
 }

@@ -7,7 +7,6 @@ mod build;
 mod decimal;
 
 use build::{Group, fill};
-use circuit::Checked;
 use circuit_check::check;
 use decimal::{find, is_digit, number, step};
 use program_input::read_full;
@@ -51,28 +50,25 @@ fn group_at(s: &[u8], at: usize) -> Read {
 fn make(s: &[u8], at: usize, bytes: &mut [u8]) -> usize {
     let mut records: usize = 0;
     let mut next = at;
-    let mut left: usize = 16;
-    while 0 < left {
-        left -= 1;
-        if is_digit(s, next) {
-            let read = group_at(s, next);
-            let group = read.group;
-            records = fill(bytes, records, group);
-            next = read.next;
+    for _ in 0..16 {
+        if !is_digit(s, next) {
+            break;
         }
+        let read = group_at(s, next);
+        records = fill(bytes, records, read.group);
+        next = read.next;
     }
     records
 }
 
 fn answer(rt: &HostRuntime, c: &[u8], gates: usize, qubits: usize, pairs: usize) -> io::Result<()> {
-    let checked = check(c, gates, qubits, pairs);
     print!(rt; " ")?;
-    match checked {
-        Checked::Refused(r) => {
+    match check(c, gates, qubits, pairs) {
+        Err(r) => {
             write_refusal(rt, r);
             Ok(())
         }
-        Checked::Accepted(n) => {
+        Ok(n) => {
             let gates = n.gates;
             let bads = n.bad_states;
             println!(rt; "accepted {gates} {bads}")
@@ -83,12 +79,8 @@ fn answer(rt: &HostRuntime, c: &[u8], gates: usize, qubits: usize, pairs: usize)
 // Runs the case that starts at `at`. Returns the start of the next line.
 fn run(rt: &HostRuntime, s: &[u8], at: usize, bytes: &mut [u8]) -> io::Result<usize> {
     let colon = find(s, at, b':');
-    if at <= colon {
-        if colon < s.len() {
-            let past = colon + 1;
-            let name = &s[at..past];
-            rt.write_all(name)?;
-        }
+    if let Some(name) = s.get(at..=colon) {
+        rt.write_all(name)?;
     }
     let gates = number(s, step(step(colon)));
     let qubits = number(s, gates.next);
@@ -96,8 +88,7 @@ fn run(rt: &HostRuntime, s: &[u8], at: usize, bytes: &mut [u8]) -> io::Result<us
     let extra = number(s, pairs.next);
     let records = make(s, extra.next, bytes);
     let len = 16 * (records % 8192) + extra.value % 16;
-    if len <= bytes.len() {
-        let c = &bytes[..len];
+    if let Some(c) = bytes.get(..len) {
         answer(rt, c, gates.value, qubits.value, pairs.value)?;
     }
     Ok(step(find(s, at, b'\n')))
@@ -106,12 +97,11 @@ fn run(rt: &HostRuntime, s: &[u8], at: usize, bytes: &mut [u8]) -> io::Result<us
 // Runs at most 200 cases.
 fn run_all(rt: &HostRuntime, s: &[u8], bytes: &mut [u8]) -> io::Result<()> {
     let mut at: usize = 0;
-    let mut left: usize = 200;
-    while 0 < left {
-        left -= 1;
-        if at < s.len() {
-            at = run(rt, s, at, bytes)?;
+    for _ in 0..200 {
+        if at >= s.len() {
+            break;
         }
+        at = run(rt, s, at, bytes)?;
     }
     Ok(())
 }

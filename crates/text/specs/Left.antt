@@ -1,8 +1,9 @@
 -- A loop that prints: what is still to be printed. Pasting the rest where the loop stands gives what pasting the whole text at the start gives.
 -- Assumes nothing.
-use Rattle.std.specs.Prelude.{◌≡◌, refl, List, [], ◌++◌, ℕ, ◌+◌, length}
-use Rattle.std.proofs.Common.{sym, ap, ◌∙◌, subst, arith, length-append}
+use Rattle.std.specs.Prelude.{◌≡◌, refl, List, [], ◌++◌, ℕ, ◌+◌, ◌≤◌, ◌<◌, length, get_or, drop}
+use Rattle.std.proofs.Common.{sym, ap, ◌∙◌, subst, add-one, arith, length-append, drop-cons, drop_of_length-le}
 use Rattle.text.specs.Paste.{paste, Printed, Room, paste-append, paste_none, length-paste}
+use Rattle.text.specs.Text.{lines}
 
 pub record Left (T buf₀ : List ℕ) (at₀ : ℕ) (rest buf : List ℕ) (at : ℕ) : Type 0 where
   pub bytes : paste buf at rest ≡ paste buf₀ at₀ T
@@ -37,3 +38,12 @@ module _ {T buf₀ : List ℕ} {at₀ : ℕ} where
   -- there is room for what is left
   pub left-room : {rest buf : List ℕ} {at : ℕ} → Room at₀ T → Left T buf₀ at₀ rest buf at → Room at rest
   left-room h l = record { below = omega (arith, l.place, h.below) }
+
+-- ---- one line for each of a list: what is left from the k-th on
+
+module _ {A : Type 0} (f : A → List ℕ) (xs : List A) (k : ℕ) where
+  pub lines-next : (d : A) → k < length xs → lines f (drop k xs) ≡ f (get_or xs k d) ++ lines f (drop (k + 1) xs)
+  lines-next d h = ap (lines f) (drop-cons xs k d h) ∙ ap (λ (n : ℕ). f (get_or xs k d) ++ lines f (drop n xs)) (sym (add-one k))
+
+  pub lines-end : length xs ≤ k → lines f (drop k xs) ≡ []
+  lines-end h = ap (lines f) (drop_of_length-le xs h)

@@ -1,6 +1,6 @@
 -- Signed numbers in the text: `-` where negative, and then the size.
 -- Assumes nothing.
-use Rattle.std.specs.Prelude.{◌≡◌, refl, List, [], ◌∷◌, ℕ, suc, ◌^◌, ◌≤◌, ◌<◌, T, ltb, ℤ, pos, negsuc, nat_abs, length, ◌<ℤ◌, ◌≤ℤ◌}
+use Rattle.std.specs.Prelude.{◌≡◌, refl, List, [], ◌∷◌, ◌++◌, ℕ, suc, ◌^◌, ◌≤◌, ◌<◌, T, ltb, ℤ, pos, negsuc, nat_abs, length, ◌<ℤ◌, ◌≤ℤ◌}
 use Rattle.std.proofs.Common.{arith, ltb→lt}
 use Rattle.text.specs.Decimal.{decimal, digits, length-decimal}
 
@@ -8,6 +8,10 @@ use Rattle.text.specs.Decimal.{decimal, digits, length-decimal}
 abbrev pub with_sign : (ℕ → List ℕ) → ℤ → List ℕ
 with_sign f (pos n) = f n
 with_sign f (negsuc n) = 45 ∷ f (suc n)
+
+-- the sign alone: `-` where negative
+abbrev pub sign : ℤ → List ℕ
+sign = with_sign (λ _. [])
 
 -- a signed number in decimal
 unfoldable pub signed_text : ℤ → List ℕ
@@ -24,6 +28,11 @@ sign_below f (negsuc n) l = refl
 pub sign_above : (f : ℕ → List ℕ) (z : ℤ) → pos 0 ≤ℤ z → with_sign f z ≡ f (nat_abs z)
 sign_above f (pos n) l = refl
 sign_above f (negsuc n) l = absurd l.le
+
+-- the sign, and then the size
+pub sign_first : (f : ℕ → List ℕ) (z : ℤ) → with_sign f z ≡ sign z ++ f (nat_abs z)
+sign_first f (pos n) = refl
+sign_first f (negsuc n) = refl
 
 -- ---- its length
 

@@ -1,8 +1,8 @@
 // The writer, and numbers. A byte past the buffer's end is counted and not stored, so printing into an empty part tells the length.
-ghost use Rattle.std.specs.Prelude.{[], ◌∷◌, ◌+◌, ◌<◌, nat_abs, ◌≡◌};
+ghost use Rattle.std.specs.Prelude.{[], ◌∷◌};
 ghost use Rattle.text.specs.Paste.{Printed, Room};
 ghost use Rattle.text.specs.Decimal.{decimal};
-ghost use Rattle.text.specs.Signed.{signed_text};
+ghost use Rattle.text.specs.Signed.{sign, signed_text};
 ghost use Rattle.text.specs.Halves.{half_text, halves_text};
 ghost use Rattle.text.specs.Text.{lead_text};
 
@@ -23,11 +23,8 @@ pub fn put_bytes(buf: &mut [u8], at: usize, s: &[u8]) -> usize
     ensures { Printed s.now buf.old at buf.new result }
 {
     let mut next = at;
-    let mut i = 0;
-    while i < s.len() {
-        let b = s[i];
-        next = put(buf, next, b);
-        i += 1;
+    for b in s {
+        next = put(buf, next, *b);
     }
     next
 }
@@ -68,16 +65,12 @@ fn put_half(buf: &mut [u8], at: usize, n: u64) -> usize
     }
 }
 
-// The size of a count; of the lowest one also, whose negation is no i64.
-fn size_of(h: i64) -> u64
-    ensures { result ≡ nat_abs h }
+// The sign of a number below 0.
+fn put_sign(buf: &mut [u8], at: usize, z: i64) -> usize
+    requires { Room at (sign z) }
+    ensures { Printed (sign z) buf.old at buf.new result }
 {
-    if h < 0 {
-        let less = 0 - (h + 1);
-        less as u64 + 1
-    } else {
-        h as u64
-    }
+    if z < 0 { put(buf, at, b'-') } else { at }
 }
 
 // A signed count of halves.
@@ -85,13 +78,8 @@ pub fn put_halves(buf: &mut [u8], at: usize, h: i64) -> usize
     requires { Room at (halves_text h) }
     ensures { Printed (halves_text h) buf.old at buf.new result }
 {
-    let size = size_of(h);
-    if h < 0 {
-        let next = put(buf, at, b'-');
-        put_half(buf, next, size)
-    } else {
-        put_half(buf, at, size)
-    }
+    let next = put_sign(buf, at, h);
+    put_half(buf, next, h.unsigned_abs())
 }
 
 // A signed number in decimal.
@@ -99,11 +87,6 @@ pub fn put_signed(buf: &mut [u8], at: usize, z: i64) -> usize
     requires { Room at (signed_text z) }
     ensures { Printed (signed_text z) buf.old at buf.new result }
 {
-    let size = size_of(z);
-    if z < 0 {
-        let next = put(buf, at, b'-');
-        put_decimal(buf, next, size)
-    } else {
-        put_decimal(buf, at, size)
-    }
+    let next = put_sign(buf, at, z);
+    put_decimal(buf, next, z.unsigned_abs())
 }

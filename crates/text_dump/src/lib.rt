@@ -2,11 +2,13 @@
 #![tactic(auto)]
 
 ghost use Rattle.std.specs.Prelude.{◌≡◌};
-ghost use Rattle.qubot_left.specs.Built.{lent};
+ghost use Rattle.qubot_left.specs.Lent.{lent_in, SameTables};
 ghost use Rattle.text_left.specs.Dumped.{dumped};
 
+use circuit::Refusal;
 use qubot::build;
-use text_left::{Dumped, print_built};
+use qubot_left::LentTables;
+use text_left::print_built;
 use units::Form;
 
 pub mod fresh;
@@ -15,22 +17,19 @@ pub mod fresh;
 pub fn dump_model(
     circuit: &[u8],
     form: Form,
-    qubits: &mut [u16],
-    origins: &mut [u16],
-    roles: &mut [u8],
-    linear: &mut [i64],
-    has_linear: &mut [u8],
-    has_row: &mut [u8],
-    fixed: &mut [u8],
-    keys: &mut [u32],
-    weights: &mut [i64],
+    tables: &mut LentTables,
     buf: &mut [u8],
-) -> Dumped
-    ensures { (lent qubits.new origins.new roles.new linear.new has_linear.new has_row.new fixed.new keys.new weights.new, (buf.new, result)) ≡ dumped circuit.now form (lent qubits.old origins.old roles.old linear.old has_linear.old has_row.old fixed.old keys.old weights.old) buf.old }
+) -> Result<usize, Refusal>
+    ensures left { (lent_in tables.new, (buf.new, result)) ≡ dumped circuit.now form (lent_in tables.old) buf.old }
+    ensures same { SameTables tables.old tables.new }
 {
-    let built = build(
-        circuit, form, qubits, origins, roles, linear, has_linear, has_row, fixed, keys, weights,
-    );
+    let built = build(circuit, form, tables);
+    let qubits = &mut *tables.qubits;
+    let linear = &mut *tables.linear;
+    let has_linear = &mut *tables.has_linear;
+    let fixed = &mut *tables.fixed;
+    let keys = &mut *tables.keys;
+    let weights = &mut *tables.weights;
     print_built(
         circuit, built, qubits, linear, has_linear, fixed, keys, weights, buf,
     )

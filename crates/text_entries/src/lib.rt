@@ -17,7 +17,7 @@ pub fn put_entry(buf: &mut [u8], at: usize, n: u64, h: i64) -> usize
     put(buf, last, b'\n')
 }
 
-// A pair, the lower name first.
+// A pair, the lower name first. The key is taken apart here, since this crate stands above `text` alone and none of the store's.
 pub fn put_pair(buf: &mut [u8], at: usize, key: u32, w: i64) -> usize
     requires { Room at (pair_text (key, w)) }
     ensures { Printed (pair_text (key, w)) buf.old at buf.new result }
@@ -33,13 +33,10 @@ fn fixed_byte(fixed: &[u8], name: usize) -> u8
     requires { name < length fixed.now }
     ensures { result ≡ fixed_byte (fixed_by (get_or fixed.now name 0)) }
 {
-    let v = fixed[name];
-    if v == 1 {
-        b'0'
-    } else if v == 2 {
-        b'1'
-    } else {
-        b'-'
+    match fixed[name] {
+        1 => b'0',
+        2 => b'1',
+        _ => b'-',
     }
 }
 
@@ -48,11 +45,9 @@ fn value_byte(fixed: &[u8], q: u16) -> u8
     requires { q ≤ length fixed.now }
     ensures { result ≡ value_byte (shown fixed.now q) }
 {
-    if q == 0 {
-        b'0'
-    } else {
-        let name = q - 1;
-        fixed_byte(fixed, name as usize)
+    match q.checked_sub(1) {
+        Some(name) => fixed_byte(fixed, name as usize),
+        None => b'0',
     }
 }
 
@@ -61,11 +56,9 @@ fn put_qubit(buf: &mut [u8], at: usize, fixed: &[u8], q: u16) -> usize
     requires { Room at (qubit_text (shown fixed.now q)) }
     ensures { Printed (qubit_text (shown fixed.now q)) buf.old at buf.new result }
 {
-    if q == 0 {
-        put(buf, at, b'?')
-    } else {
-        let name = q - 1;
-        put_decimal(buf, at, name as u64)
+    match q.checked_sub(1) {
+        Some(name) => put_decimal(buf, at, name as u64),
+        None => put(buf, at, b'?'),
     }
 }
 

@@ -1,6 +1,6 @@
 -- What stands in the tables that a build left is fit to be printed.
 -- Assumes nothing.
-use Rattle.std.specs.Prelude.{◌≡◌, refl, List, [], ◌∷◌, ◌++◌, map, ℕ, ◌+◌, ◌*◌, ◌-◌, ◌^◌, ◌≤◌, ◌<◌, ℤ, pos, nat_abs, length, get_or, drop, replicate}
+use Rattle.std.specs.Prelude.{◌≡◌, refl, List, [], ◌∷◌, ◌++◌, map, ℕ, ◌+◌, ◌*◌, ◌-◌, ◌^◌, ◌≤◌, ◌<◌, ℤ, pos, nat_abs, length, get_or, drop, replicate, Ok, Result}
 use Rattle.std.proofs.Common.{sym, ap, ◌∙◌, arith, length-append}
 use Rattle.std.proofs.Math.Path.{subst⁻¹}
 use Rattle.std.proofs.lemmas.List.{length-map}
@@ -20,12 +20,11 @@ use Rattle.numbering.specs.Numbered.{numbered, number}
 use Rattle.numbering.specs.Finished.{Finished as Named·finished}
 use Rattle.model.specs.Steps.{finished_of}
 use Rattle.model_place.specs.Blank.{pairs_of}
-use Rattle.qubot_left.specs.declared.Built.{Built}
-use Rattle.qubot_left.specs.declared.Built.TheVariants.{Done}
 use Rattle.qubot_left.specs.declared.Finished.{Finished}
 use Rattle.qubot_left.specs.Built.{Tables, lent, padded, filled, onto, within, answer, built}
 use Rattle.qubot_left.specs.Left.{by-done, onto-length, padded-long, names-counted, formed, small, fin, sized, light, pairs-at-most}
 use Rattle.text.specs.Ready.{BadsNamed, Printable}
+use Rattle.circuit.specs.declared.Refusal.{Refusal}
 
 -- The file passed its checks; each gate has an entry, and each bad state a qubit; the tables have an entry for each of the names and of the pairs; and the numbers are small.
 pub record Left (b : List ℕ) (u : Tables) (f : Finished) : Type 0 where
@@ -101,7 +100,7 @@ module _ (b : List ℕ) (form : Form) (t : Tables) (sound : Sound b) (s : State)
       }
 
 -- what a build left that is not refused
-pub left : (b : List ℕ) (form : Form) (t u : Tables) (f : Finished) → built b form t ≡ (u, Done f) → Left b u f
+pub left : (b : List ℕ) (form : Form) (t u : Tables) (f : Finished) → built b form t ≡ (u, Ok f) → Left b u f
 left b form t u f e = by-done b form t u f (Left b) e (λ sound s num clear. left-of b form t sound s num)
 
 -- what printing asks
@@ -152,9 +151,9 @@ bare l =
     }
 
 -- where a build is done
-abbrev pub LeftBy : List ℕ → Tables → Built → Type 0
-LeftBy b u x = (f : Finished) → x ≡ Done f → Left b u f
+abbrev pub LeftBy : List ℕ → Tables → Result Finished Refusal → Type 0
+LeftBy b u x = (f : Finished) → x ≡ Ok f → Left b u f
 
-pub left_by : (b : List ℕ) (form : Form) (t u : Tables) (x : Built) → (u, x) ≡ built b form t
+pub left_by : (b : List ℕ) (form : Form) (t u : Tables) (x : Result Finished Refusal) → (u, x) ≡ built b form t
     → LeftBy b (lent u.qubits [] [] u.linear u.has_linear [] u.fixed u.keys u.weights) x
-left_by b form t u x e f p = bare (left b form t u f (sym e ∙ ap (λ (y : Built). (u, y)) p))
+left_by b form t u x e f p = bare (left b form t u f (sym e ∙ ap (λ (y : Result Finished Refusal). (u, y)) p))

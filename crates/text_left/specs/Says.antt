@@ -1,6 +1,6 @@
 -- The text that is printed is the model text of the model that stands in the tables.
 -- Assumes nothing.
-use Rattle.std.specs.Prelude.{◌≡◌, refl, ℕ, ℤ, take}
+use Rattle.std.specs.Prelude.{◌≡◌, refl, ℕ, ℤ, take, Ok}
 use Rattle.std.proofs.Common.{ap}
 use mathlib.Core.List.{List, [], ◌∷◌, zip as side_by_side}
 use Rattle.units.specs.declared.Form.{Form}
@@ -8,7 +8,6 @@ use Rattle.energy.specs.Model.{Entry}
 use Rattle.circuit.specs.Meaning.{circuit_of}
 use Rattle.numbering.specs.State.{names_of}
 use Rattle.store_pairs.specs.Store.{zip}
-use Rattle.qubot_left.specs.declared.Built.TheVariants.{Done}
 use Rattle.qubot_left.specs.declared.Finished.{Finished}
 use Rattle.qubot_left.specs.Built.{Tables, built}
 use Rattle.qubot_left.specs.Proved.{model_in, build-proved}
@@ -22,7 +21,7 @@ one-zip (k ∷ ks) [] = refl
 one-zip (k ∷ ks) (w ∷ ws) = ap (λ (l : List Entry). (k, w) ∷ l) (one-zip ks ws)
 
 -- Theorem: where the build is not refused, the text is `model_text` of the circuit, the qubits and the model that the tables and the answer hold.
-pub text_says : (b : List ℕ) (form : Form) (t u : Tables) (f : Finished) → built b form t ≡ (u, Done f)
+pub text_says : (b : List ℕ) (form : Form) (t u : Tables) (f : Finished) → built b form t ≡ (u, Ok f)
     → text_in b u f ≡ model_text (circuit_of b) u.qubits (model_in (circuit_of b) u f)
 text_says b form t u f e i =
     layout

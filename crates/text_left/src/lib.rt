@@ -10,58 +10,22 @@ ghost use Rattle.text.specs.Ready.{Printable};
 ghost use Rattle.text_left.specs.Left.{Left, LeftBy};
 ghost use Rattle.text_left.specs.Dumped.{text_in, written_to, printed_by};
 
-use circuit::{Counts, Refusal};
+use circuit::Refusal;
 use circuit_lists::input_starts;
 use circuit_sizes::counts_of;
-use qubot_left::{Built, Finished};
-use text_print::print_model;
-
-// The length of the text in the buffer, or the refusal.
-#[derive(Clone, Copy)]
-pub enum Dumped {
-    Text(usize),
-    Refused(Refusal),
-}
+use qubot_left::Finished;
+use text_print::{Sheet, print_model};
 
 // How long the text is: printed into nothing.
-fn text_length(
-    c: &[u8],
-    counts: Counts,
-    starts: &[u16; 65],
-    qubits: &[u16],
-    n: usize,
-    fixed: &[u8],
-    has: &[u8],
-    linear: &[i64],
-    pairs: usize,
-    keys: &[u32],
-    weights: &[i64],
-    offset: i64,
-    variables: u64,
-) -> usize
-    requires { Printable c.now starts.now qubits.now fixed.now has.now linear.now keys.now weights.now counts n pairs }
-    ensures { result ≡ length (layout (sheet_by (circuit_of c.now) qubits.now variables offset (take n fixed.now) (take n has.now) (take n linear.now) (take pairs (zip keys.now weights.now)))) }
+fn text_length(s: Sheet) -> usize
+    requires { Printable s.circuit.now s.starts.now s.qubits.now s.fixed.now s.has.now s.linear.now s.keys.now s.weights.now s.counts s.names s.pairs }
+    ensures { result ≡ length (layout (sheet_by (circuit_of s.entry.circuit.now) s.entry.qubits.now s.entry.variables s.entry.offset (take s.entry.names s.entry.fixed.now) (take s.entry.names s.entry.has.now) (take s.entry.names s.entry.linear.now) (take s.entry.pairs (zip s.entry.keys.now s.entry.weights.now)))) }
 {
     let mut none = [0u8; 1];
-    print_model(
-        c,
-        counts,
-        starts,
-        qubits,
-        n,
-        fixed,
-        has,
-        linear,
-        pairs,
-        keys,
-        weights,
-        offset,
-        variables,
-        &mut none[..0],
-    )
+    print_model(s, &mut none[..0])
 }
 
-// Prints what a build left, where the buffer has room for the text.
+// Prints what a build left, where the buffer has room for the text. Answers how long the text is.
 fn print_left(
     circuit: &[u8],
     f: Finished,
@@ -72,34 +36,40 @@ fn print_left(
     keys: &[u32],
     weights: &[i64],
     buf: &mut [u8],
-) -> Dumped
+) -> Result<usize, Refusal>
     requires { Left circuit.now (lent qubits.now [] [] linear.now has.now [] fixed.now keys.now weights.now) f }
     ensures { (buf.new, result) ≡ written_to (text_in circuit.now (lent qubits.now [] [] linear.now has.now [] fixed.now keys.now weights.now) f) buf.old }
 {
     let counts = counts_of(circuit);
     let starts = input_starts(circuit);
-    let n = 3 * counts.gates + counts.bad_states + 1;
-    let pairs = f.pairs;
-    let offset = f.offset;
-    let variables = f.variables as u64;
-    let length = text_length(
-        circuit, counts, &starts, qubits, n, fixed, has, linear, pairs, keys, weights, offset,
-        variables,
-    );
+    let names = 3 * counts.gates + counts.bad_states + 1;
+    let sheet = Sheet {
+        circuit,
+        counts,
+        starts: &starts,
+        qubits,
+        names,
+        fixed,
+        has,
+        linear,
+        pairs: f.pairs,
+        keys,
+        weights,
+        offset: f.offset,
+        variables: f.variables as u64,
+    };
+    let length = text_length(sheet);
     if buf.len() < length {
-        return Dumped::Refused(Refusal::ShortText);
+        return Err(Refusal::ShortText);
     }
-    print_model(
-        circuit, counts, &starts, qubits, n, fixed, has, linear, pairs, keys, weights, offset,
-        variables, buf,
-    );
-    Dumped::Text(length)
+    print_model(sheet, buf);
+    Ok(length)
 }
 
 // Prints what a build left, or gives its refusal.
 pub fn print_built(
     circuit: &[u8],
-    built: Built,
+    built: Result<Finished, Refusal>,
     qubits: &[u16],
     linear: &[i64],
     has: &[u8],
@@ -107,12 +77,11 @@ pub fn print_built(
     keys: &[u32],
     weights: &[i64],
     buf: &mut [u8],
-) -> Dumped
+) -> Result<usize, Refusal>
     requires { LeftBy circuit.now (lent qubits.now [] [] linear.now has.now [] fixed.now keys.now weights.now) built }
     ensures { (buf.new, result) ≡ printed_by circuit.now buf.old (lent qubits.now [] [] linear.now has.now [] fixed.now keys.now weights.now) built }
 {
-    match built {
-        Built::Refused(r) => Dumped::Refused(r),
-        Built::Done(f) => print_left(circuit, f, qubits, linear, has, fixed, keys, weights, buf),
-    }
+    print_left(
+        circuit, built?, qubits, linear, has, fixed, keys, weights, buf,
+    )
 }

@@ -18,6 +18,7 @@ use Rattle.circuit.specs.Accepted.{WellFormed, well-formed}
 use Rattle.circuit.specs.Starts.{start_of, starts_of, few-records}
 use Rattle.circuit.specs.Parts.{bad_of, input_of_circuit, InputStands, input-stands, starts-entry}
 use Rattle.text.specs.Text.{lines, commas, comma, bad_text, bad_line, input_text, input_line, word, shown, shown_at}
+use Rattle.text.specs.Left.{lines-next, lines-end}
 use Rattle.text.specs.Ready.{Each, BadsNamed, Readable}
 
 -- ---- of what is found at each
@@ -51,9 +52,6 @@ cons-more f x (y ∷ ys) zero e = absurd (omega arith)
 cons-more f x (y ∷ ys) (suc n) e = sym (simp (lt-ltb 0 (suc n) (omega arith)) (append_assoc (f x) (comma ∷ []) (commas f (y ∷ ys))))
 
 module _ {A : Type 0} (f : A → List ℕ) (xs : List A) (d : A) where
-  lines_more : (k : ℕ) → k < length xs → lines f (drop k xs) ≡ f (get_or xs k d) ++ lines f (drop (k + 1) xs)
-  lines_more k h = ap (lines f) (rest_more xs d k h)
-
   words_more : (k m : ℕ) → k < length xs → m ≡ length xs → commas f (drop k xs) ≡ f (get_or xs k d) ++ cond (ltb (k + 1) m) (comma ∷ []) [] ++ commas f (drop (k + 1) xs)
   words_more k m h e =
       let size : length (drop (k + 1) xs) ≡ m - (k + 1) = length-drop (k + 1) xs ∙ ap (λ (n : ℕ). n - (k + 1)) (sym e) in
@@ -90,12 +88,12 @@ module _ (qs fs : List ℕ) (bads : List Bad) where
       → bads-from qs fs bads k ≡ bad_text (bad_line qs fs (record { gate = g; nid = n })) ++ bads-from qs fs bads (k + 1)
   unfolding bads-from
   bads-next k g n h e f =
-      lines_more (λ (b : Bad). bad_text (bad_line qs fs b)) bads (record { gate = 0; nid = 0 }) k h
+      lines-next (λ (b : Bad). bad_text (bad_line qs fs b)) bads k (record { gate = 0; nid = 0 }) h
       ∙ sym (ap₂ (λ (g n : ℕ). bad_text (bad_line qs fs (record { gate = g; nid = n })) ++ bads-from qs fs bads (k + 1)) e f)
 
   pub bads-none : (k : ℕ) → length bads ≤ k → bads-from qs fs bads k ≡ []
   unfolding bads-from
-  bads-none k h = ap (lines (λ (b : Bad). bad_text (bad_line qs fs b))) (rest-none bads (record { gate = 0; nid = 0 }) k h)
+  bads-none k h = lines-end (λ (b : Bad). bad_text (bad_line qs fs b)) bads k h
 
 -- ---- the words of an input's bits
 
@@ -130,11 +128,11 @@ module _ (qs fs : List ℕ) (is : List Input) where
 
   pub inputs-next : (k : ℕ) → k < length is → inputs-from qs fs is k ≡ input_text (input_line qs fs (get_or is k (record { nid = 0; bits = [] }))) ++ inputs-from qs fs is (k + 1)
   unfolding inputs-from
-  inputs-next k h = lines_more (λ (i : Input). input_text (input_line qs fs i)) is (record { nid = 0; bits = [] }) k h
+  inputs-next k h = lines-next (λ (i : Input). input_text (input_line qs fs i)) is k (record { nid = 0; bits = [] }) h
 
   pub inputs-none : (k : ℕ) → length is ≤ k → inputs-from qs fs is k ≡ []
   unfolding inputs-from
-  inputs-none k h = ap (lines (λ (i : Input). input_text (input_line qs fs i))) (rest-none is (record { nid = 0; bits = [] }) k h)
+  inputs-none k h = lines-end (λ (i : Input). input_text (input_line qs fs i)) is k h
 
 -- ---- a gate that was read has its entry
 

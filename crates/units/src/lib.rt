@@ -64,9 +64,8 @@ pub fn f64_of_halves(h: i64) -> f64
 pub fn energy_of(h: i64, form: Form) -> Energy
     ensures { result ≡ energy_of h form }
 {
-    let value = f64_of_halves(h);
     Energy {
-        value,
+        value: f64_of_halves(h),
         halves: h,
         form,
     }
@@ -83,5 +82,5 @@ pub fn is_hit(e: Energy) -> bool
 pub fn lesser(a: usize, b: usize) -> usize
     ensures { result ≡ min a b }
 {
-    if a < b { a } else { b }
+    a.min(b)
 }

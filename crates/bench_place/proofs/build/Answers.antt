@@ -6,10 +6,9 @@ use Rattle.bench_place.proofs.build.Goals as goal
 
 pub place_rows-t-requires : goal.place_rows-t-requires
 place_rows-t-requires c =
-    let z = c.zero_i64 in
     let lens = c.requires.linear_len in
     let room = c.requires.keys_len in
-    (z.auto.t ∙ lens.0, lens.1, lens.2, room.1 ∙ sym room.0, omega (arith, room.0), omega arith, zeros-weigh (length c.args.linear.now) z.ensures)
+    (c.fill.auto.self ∙ lens.0, lens.1, lens.2, room.1 ∙ sym room.0, omega (arith, room.0), omega arith, zeros-weigh (length c.args.linear.now) (c.fill.ensures.after (λ y e. e)))
 
 pub settle-u-requires : goal.settle-u-requires
 settle-u-requires c =

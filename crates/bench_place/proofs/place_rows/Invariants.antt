@@ -1,12 +1,8 @@
 -- `place_rows` meets its contract: the bounds that placing asks follow from what each penalty adds (`Rounds`).
-use Rattle.std.proofs.Common.{[], ◌-◌, ◌≤◌}
+use Rattle.std.proofs.Common.{[]}
 use Rattle.store.specs.Tables.{tables}
-use Rattle.bench_place.proofs.Rounds.{Growing, Lengths}
+use Rattle.bench_place.proofs.Rounds.{Growing}
 use Rattle.bench_place.proofs.place_rows.Given as goal
 
 abbrev pub invariant-loop-i : goal.invariant-loop-i
-invariant-loop-i l =
-    (l.i ≤ l.n) × Lengths l.initial.linear l.initial.present l.initial.rows l.initial.keys l.initial.weights l.linear l.present l.rows l.keys l.weights × Growing (tables l.t.offset l.linear l.present l.rows [] l.keys l.weights l.t.count) l.i
-
-abbrev pub decreases-loop-i : goal.decreases-loop-i
-decreases-loop-i l = l.n - l.i
+invariant-loop-i l = Growing (tables l.t.offset l.linear l.present l.rows [] l.keys l.weights l.t.count) l.i

@@ -14,4 +14,4 @@ all-below w a b c d e f aux = e
 all-below w a b c d e f car = f
 
 pub returns : goal.returns
-returns c = all-below _ c.name-x1.ensures c.name-x2.ensures c.name-x3.ensures c.name-z.ensures c.name-a.ensures c.name-k.ensures
+returns c = all-below _ c.name.ensures c.name-2.ensures c.name-3.ensures c.name-4.ensures c.name-5.ensures c.name-6.ensures

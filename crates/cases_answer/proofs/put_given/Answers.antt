@@ -9,4 +9,4 @@ pub slice_bounds-put_ran-end : goal.slice_bounds-put_ran-end
 slice_bounds-put_ran-end c = simp length-take (omega arith)
 
 pub returns : goal.returns
-returns c = record { printed = printed-as (ap (run_answer c.args.circuit.now c.args.form) (given_is _ _ _ _ c.lesser-n.ensures c.read_values.ensures)) c.put_ran.ensures.printed; upper_bound = c.put_ran.ensures.upper_bound }
+returns c = record { printed = printed-as (ap (run_answer c.args.circuit.now c.args.form) (given_is _ _ _ _ c.min-n.ensures c.read_values.ensures)) c.put_ran.ensures.printed; upper_bound = c.put_ran.ensures.upper_bound }

@@ -12,10 +12,10 @@ pub returns-then-too_many : goal.returns-then-too_many
 returns-then-too_many c = too-many-records _ _ _ _ c.if-c-ne0.false (ap too_many (sym c.counts_of-k.ensures) ∙ sym c.too_many.ensures ∙ c.if-too_many.true)
 
 pub check_names-requires : goal.check_names-requires
-check_names-requires c = (regular _ (ap too_many (sym c.counts_of-k.ensures) ∙ sym c.too_many.ensures ∙ c.if-too_many.false) (sym c.first_broken-broken.ensures ∙ c.in-Nowhere.is), c.counts_of-k.ensures, sym c.too_many.ensures ∙ c.if-too_many.false)
+check_names-requires c = (regular _ (ap too_many (sym c.counts_of-k.ensures) ∙ sym c.too_many.ensures ∙ c.if-too_many.false) (sym c.first_broken.ensures ∙ c.in_default.is), c.counts_of-k.ensures, sym c.too_many.ensures ∙ c.if-too_many.false)
 
-pub returns-in-At : goal.returns-in-At
-returns-in-At c = form-broken _ _ _ _ c.if-c-ne0.false (ap too_many (sym c.counts_of-k.ensures) ∙ sym c.too_many.ensures ∙ c.if-too_many.false) (sym c.first_broken-broken.ensures ∙ c.in-At.is)
+pub returns-in-Some : goal.returns-in-Some
+returns-in-Some c = form-broken _ _ _ _ c.if-c-ne0.false (ap too_many (sym c.counts_of-k.ensures) ∙ sym c.too_many.ensures ∙ c.if-too_many.false) (sym c.first_broken.ensures ∙ c.in-Some.is)
 
-pub returns-in-Nowhere : goal.returns-in-Nowhere
-returns-in-Nowhere c = c.check_names.ensures ∙ sym (form-ok _ _ _ _ c.if-c-ne0.false (ap too_many (sym c.counts_of-k.ensures) ∙ sym c.too_many.ensures ∙ c.if-too_many.false) (sym c.first_broken-broken.ensures ∙ c.in-Nowhere.is))
+pub returns : goal.returns
+returns c = c.check_names.ensures ∙ sym (form-ok _ _ _ _ c.if-c-ne0.false (ap too_many (sym c.counts_of-k.ensures) ∙ sym c.too_many.ensures ∙ c.if-too_many.false) (sym c.first_broken.ensures ∙ c.in_default.is))

@@ -1,16 +1,27 @@
--- `decimals::read_negative` meets its contract: a number up to 2^63 has a negation that is an i64.
-use Rattle.std.proofs.Common.{sym, ap, ◌∙◌, ◌^◌, w64, SFits, to_z-of_z}
-use Rattle.decimals.specs.declared.Value.TheVariants.{Is}
+-- `decimals::read_negative` meets its contract: 0 less a number up to 2^63 is an i64.
+use Rattle.std.proofs.Common.{◌≡◌, Option, Some, None, SomeIff, sym, ap, ◌∙◌, subst, ℕ, zero, suc, ◌^◌, ◌≤◌, arith, ℤ, pos, neg_ℤ, ◌-ℤ◌, w64, SFits}
+use lib.IntN.{+ℤ_idl}
 use Rattle.decimals.specs.Upto.{told-bound, negative-is, negative-none}
 use Rattle.decimals.proofs.read_negative.Goals as goal
 
-pub negated-requires : goal.negated-requires
-negated-requires c = told-bound (2 ^ 63) _ _ (sym c.read_digits-digits.ensures ∙ c.in-Number.is)
+less : (n : ℕ) → pos 0 -ℤ pos n ≡ neg_ℤ (pos n)
+less n = +ℤ_idl (neg_ℤ (pos n))
 
-pub returns-in-Number : goal.returns-in-Number
-returns-in-Number c =
-    let fits : SFits w64 c.negated.result = record { sfits = c.negated.type_inv } in
-    ap Is (to_z-of_z fits ∙ c.negated.ensures) ∙ negative-is _ _ (sym c.read_digits-digits.ensures ∙ c.in-Number.is)
+fits : (n : ℕ) → n ≤ 2 ^ 63 → SFits w64 (neg_ℤ (pos n))
+fits zero h = record { sfits = omega arith }
+fits (suc n) h = record { sfits = omega arith }
 
-pub returns-in-Not : goal.returns-in-Not
-returns-in-Not c = negative-none _ (sym c.read_digits-digits.ensures ∙ c.in-Not.is)
+-- what fits is answered
+sure : {P : Type 0} {v : ℤ} (r : Option ℤ) → SomeIff r P v → P → r ≡ Some v
+sure None h p = absurd (h p)
+sure (Some x) h p = ap Some h.1
+
+pub returns-in_err-n : goal.returns-in_err-n
+returns-in_err-n c = c.from_residual.ensures ∙ negative-none _ (sym c.in_err-n.ensures)
+
+pub returns : goal.returns
+returns c =
+    let n = c.in_ok-n.n in
+    sure _ c.checked_sub_unsigned.ensures (subst (SFits w64) (sym (less n)) (fits n (told-bound (2 ^ 63) _ _ (sym c.in_ok-n.ensures))))
+    ∙ ap Some (less n)
+    ∙ negative-is _ _ (sym c.in_ok-n.ensures)

@@ -1,27 +1,20 @@
 use Rattle.std.proofs.Common.{refl, ◌∙◌, arith}
-use Rattle.model_rows.specs.Rowed.{fin}
-use Rattle.model_place.specs.Blank.{names-small, starts, can-place, turn, all-logged}
+use Rattle.model_place.specs.Blank.{starts, can-place, turn, all-logged}
 use Rattle.model_place.proofs.place_all.Goals as goal
 
 pub loop-q-init : goal.loop-q-init
 loop-q-init c = (starts _ _ _ _ c.requires.0 c.requires.1, refl, refl, refl, refl, refl)
 
 pub row_at-p-requires : goal.row_at-p-requires
-row_at-p-requires c = (c.requires.0, c.loop-q.invariant.0.low, c.loop-q-test.true)
+row_at-p-requires c = (c.requires.0, c.loop-q.invariant.0.low, (omega arith))
 
 pub place_one-t-requires : goal.place_one-t-requires
-place_one-t-requires c = can-place _ _ _ _ c.requires.0 c.loop-q.invariant.0 c.loop-q-test.true c.row_at-p.ensures
-
-pub overflow_add-q : goal.overflow_add-q
-overflow_add-q c = omega (arith, c.loop-q-test.true, (fin _ _ _ _ c.requires.0).at_most, names-small _ _ _ _ c.requires.0)
-
-pub loop-q-smaller : goal.loop-q-smaller
-loop-q-smaller c = omega (arith, c.loop-q-test.true)
+place_one-t-requires c = can-place _ _ _ _ c.requires.0 c.loop-q.invariant.0 (omega arith) c.row_at-p.ensures
 
 pub loop-q-preserved : goal.loop-q-preserved
 loop-q-preserved c =
     let i = c.loop-q.invariant in (
-      turn _ _ _ _ c.requires.0 i.0 c.loop-q-test.true c.row_at-p.ensures c.place_one-t.auto.keys c.place_one-t.auto.weights c.place_one-t.ensures,
+      turn _ _ _ _ c.requires.0 i.0 (omega arith) c.row_at-p.ensures c.place_one-t.auto.keys c.place_one-t.auto.weights c.place_one-t.ensures,
       c.place_one-t.auto.linear ∙ i.1,
       c.place_one-t.auto.present ∙ i.2,
       c.place_one-t.auto.rows ∙ i.3,
@@ -45,4 +38,4 @@ pub shape_of-weights : goal.shape_of-weights
 shape_of-weights c = c.loop-q.invariant.5
 
 pub returns : goal.returns
-returns c = all-logged c.loop-q.invariant.0 c.loop-q-test.false
+returns c = all-logged c.loop-q.invariant.0 (omega arith)

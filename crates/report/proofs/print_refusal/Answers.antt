@@ -22,15 +22,15 @@ room : (r : Refusal) (n p : ℕ) → n ≡ number_of r → p ≡ place_of r → 
 room r n p e f l = room_as (says r n p e f) (record { below = omega (arith, short r p f l) })
 
 pub put_lead-second-requires : goal.put_lead-second-requires
-put_lead-second-requires c = room-first _ (room-second c.put_bytes-first.ensures (room c.args.r _ _ c.number_of-number.ensures c.place_of-place.ensures (omega arith)))
+put_lead-second-requires c = room-first _ (room-second c.put_bytes-first.ensures (room c.args.r _ _ c.number-number.ensures c.place-place.ensures (omega arith)))
 
 pub put_decimal-end-requires : goal.put_decimal-end-requires
-put_decimal-end-requires c = room-first _ (room-second c.put_lead-second.ensures (room-second c.put_bytes-first.ensures (room c.args.r _ _ c.number_of-number.ensures c.place_of-place.ensures (omega arith))))
+put_decimal-end-requires c = room-first _ (room-second c.put_lead-second.ensures (room-second c.put_bytes-first.ensures (room c.args.r _ _ c.number-number.ensures c.place-place.ensures (omega arith))))
 
 pub put-requires : goal.put-requires
-put-requires c = room-second c.put_decimal-end.ensures (room-second c.put_lead-second.ensures (room-second c.put_bytes-first.ensures (room c.args.r _ _ c.number_of-number.ensures c.place_of-place.ensures (omega arith))))
+put-requires c = room-second c.put_decimal-end.ensures (room-second c.put_lead-second.ensures (room-second c.put_bytes-first.ensures (room c.args.r _ _ c.number-number.ensures c.place-place.ensures (omega arith))))
 
 pub returns : goal.returns
 returns c =
-    let p = within 32 (short c.args.r _ c.place_of-place.ensures (omega arith)) (printed-as (says c.args.r _ _ c.number_of-number.ensures c.place_of-place.ensures) (then c.put_bytes-first.ensures (then c.put_lead-second.ensures (then c.put_decimal-end.ensures c.put.ensures)))) in
+    let p = within 32 (short c.args.r _ c.place-place.ensures (omega arith)) (printed-as (says c.args.r _ _ c.number-number.ensures c.place-place.ensures) (then c.put_bytes-first.ensures (then c.put_lead-second.ensures (then c.put_decimal-end.ensures c.put.ensures)))) in
     record { printed = p.0; upper_bound = p.1 }

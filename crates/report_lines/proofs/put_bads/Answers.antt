@@ -1,27 +1,11 @@
 -- `report_lines::put_bads` meets its contract.
-use Rattle.std.proofs.Common.{◌≡◌, ap, List, [], ◌++◌, ℕ, ◌+◌, ◌≤◌, ◌<◌, add-one, arith, length, take, drop, get_or, length-take, drop_of_length-le, drop-cons, get_or-take}
-use Rattle.text.specs.Left.{left-start, left_as, left-print, left_end}
-use Rattle.text.specs.Text.{lines}
+use Rattle.std.proofs.Common.{arith}
+use Rattle.text.specs.Left.{left_as, left-print, left_end, lines-next, lines-end}
 use Rattle.report_lines.specs.Report.{bad_line}
 use Rattle.report_lines.proofs.put_bads.Goals as goal
 
--- the nid that comes next
-coming : (s : List ℕ) (n k : ℕ) → n ≤ length s → k < n → lines bad_line (drop k (take n s)) ≡ bad_line (get_or s k 0) ++ lines bad_line (drop (k + 1) (take n s))
-coming s n k h l =
-    let inside : k < length (take n s) = simp length-take (omega arith) in
-    rw (add-one k, drop-cons (take n s) k 0 inside, get_or-take)
+pub loop-nid-preserved : goal.loop-nid-preserved
+loop-nid-preserved c = (omega (arith, c.put_bad-next.ensures.upper_bound), left-print (left_as (lines-next bad_line _ _ 0 c.loop-nid-test.true) c.loop-nid.invariant.1) c.put_bad-next.ensures.printed)
 
-none : (s : List ℕ) (n k : ℕ) → n ≤ k → lines bad_line (drop k (take n s)) ≡ []
-none s n k h = let out : length (take n s) ≤ k = simp length-take (omega arith) in ap (lines bad_line) (drop_of_length-le (take n s) out)
-
-pub loop-k-init : goal.loop-k-init
-loop-k-init c = (omega arith, omega arith, left-start)
-
-pub loop-k-preserved : goal.loop-k-preserved
-loop-k-preserved c = (omega arith, omega arith, left-print (left_as (coming _ _ _ c.requires.0 c.loop-k-test.true) c.loop-k.invariant.2) c.put_bad-next.ensures.printed)
-
-pub shape_of-buf : goal.shape_of-buf
-shape_of-buf c = c.loop-k.invariant.2.size
-
-pub returns : goal.returns
-returns c = record { printed = left_end (left_as (none _ _ _ c.loop-k-test.false) c.loop-k.invariant.2); upper_bound = omega arith }
+pub returns-clause-printed : goal.returns-clause-printed
+returns-clause-printed c = left_end (left_as (lines-end bad_line _ _ c.loop-nid-test.false) c.loop-nid.invariant.1)

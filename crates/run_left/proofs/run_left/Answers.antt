@@ -8,12 +8,3 @@ list_starts-starts-requires c =
     let l = c.requires in
     let p = passed l c.counts_of-k.result c.counts_of-k.ensures in
     (l.sound.timely.regular, gates-are p, list-bits-are p)
-
-pub input_starts-inputs_from-requires : goal.input_starts-inputs_from-requires
-input_starts-inputs_from-requires c = c.requires.sound.timely.regular
-
-pub run_parts-requires : goal.run_parts-requires
-run_parts-requires c = (c.requires, c.counts_of-k.ensures, c.list_starts-starts.ensures, c.input_starts-inputs_from.ensures)
-
-pub returns : goal.returns
-returns c = c.run_parts.ensures

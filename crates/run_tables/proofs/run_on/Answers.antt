@@ -1,19 +1,14 @@
 -- `run_tables::run_on` meets its contract.
-use Rattle.std.proofs.Common.{drop, length-take-le, sym, ap, ◌∙◌, lt-ltb}
+use Rattle.std.proofs.Common.{drop, ap, ◌∙◌, lt-ltb}
+use Rattle.run_meaning.specs.Ran.{beside, ran}
 use Rattle.run_tables.proofs.Ending.{ran-inside}
-use Rattle.run_meaning.specs.Ran.{beside}
-use Rattle.run_meaning.specs.Ran.{ran}
 use Rattle.run_tables.proofs.run_on.Goals as goal
 
-pub returns-then-values-names : goal.returns-then-values-names
+pub returns-then-values-on : goal.returns-then-values-on
 unfolding ran
-returns-then-values-names c = rw (lt-ltb _ _ c.if-values-names.true, c.refused.ensures)
-
-pub slice_bounds-run_within-end-2 : goal.slice_bounds-run_within-end-2
-slice_bounds-run_within-end-2 c = sym (length-take-le c.args.names c.args.values.now c.if-values-names.false)
-
-pub run_within-requires : goal.run_within-requires
-run_within-requires c = (c.requires, sym (length-take-le _ _ c.if-values-names.false))
+returns-then-values-on c = rw (lt-ltb _ _ c.if-values-on.true, c.refused.ensures)
 
 pub returns : goal.returns
-returns c = ap (beside (drop c.args.names c.args.values.now)) c.run_within.ensures ∙ ran-inside _ c.args.inputs.now c.args.values.now c.if-values-names.false
+returns c =
+    ap (beside (drop c.args.on.now.names c.args.values.now)) c.run_within.ensures
+    ∙ ran-inside _ c.args.inputs.now c.args.values.now c.if-values-on.false

@@ -1,6 +1,5 @@
 -- `store_ising::to_ising` meets its contract: two sums, the halves, and the pass over the pairs (`Turns`).
-use Rattle.std.proofs.Common.{sym, ap, ◌∙◌, subst, ℕ, ◌≤◌, ◌^◌, arith, ◌+ℤ◌, nat_abs, length, take, w64, SFits, to_z-of_z}
-use Rattle.std.proofs.Math.Seq.{take-length}
+use Rattle.std.proofs.Common.{sym, ap, ◌∙◌, subst, ℕ, ◌≤◌, ◌^◌, arith, ◌+ℤ◌, nat_abs, take, w64, SFits, to_z-of_z}
 use Rattle.std.proofs.lemmas.Int.{ints}
 use Rattle.laws.specs.Half.{half-fits}
 use Rattle.energy.specs.Model.{Inside, half, quarter, sizes}
@@ -10,7 +9,7 @@ use Rattle.store_ising.proofs.Turns.{quarter-fits, weights-small, offset-fits, s
 use Rattle.store_ising.proofs.to_ising.Goals as goal
 
 pub sum_of-b-requires : goal.sum_of-b-requires
-sum_of-b-requires c = (omega (arith, c.requires.even, c.requires.used), weights-small c.requires)
+sum_of-b-requires c = weights-small c.requires
 
 pub turn_pairs-requires : goal.turn_pairs-requires
 turn_pairs-requires c =
@@ -24,11 +23,11 @@ turn_pairs-requires c =
       small = omega (arith, r.small, sizes-half c.args.linear.now, ap sizes c.halve_all.ensures);
     }
 
-pub overflow_add-offset : goal.overflow_add-offset
-overflow_add-offset c =
+pub overflow_add-result : goal.overflow_add-result
+overflow_add-result c =
     let r = c.requires in
     let l = c.args.linear.now in
-    let a-small : nat_abs c.sum_of-a.result ≤ 2 ^ 40 = omega (arith, ap nat_abs c.sum_of-a.ensures, sizes-sum (take (length l) l), ap sizes (take-length l), r.small) in
+    let a-small : nat_abs c.sum_of-a.result ≤ 2 ^ 40 = omega (arith, ap nat_abs c.sum_of-a.ensures, sizes-sum l, r.small) in
     let b-small : nat_abs c.sum_of-b.result ≤ 2 ^ 40 = omega (arith, ap nat_abs c.sum_of-b.ensures, sizes-sum (take c.args.t.count c.args.weights.now), weights-small r) in
     omega (arith, ints, r.small)
 

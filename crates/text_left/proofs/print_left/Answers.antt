@@ -28,14 +28,14 @@ told c =
     c.text_length-length.ensures
     ∙ ap length (text-as c.args.circuit.now (tables_of c) c.args.f _ _ (names-counted _ _ c.counts_of-counts.ensures) (to_z-of_z (fits-abs w64 _ c.requires.offset)))
 
-pub overflow_mul-n : goal.overflow_mul-n
-overflow_mul-n c = omega (arith, few (goal.at.overflow_mul-n c).After-counts_of-counts)
+pub overflow_mul-names : goal.overflow_mul-names
+overflow_mul-names c = omega (arith, few (goal.at.overflow_mul-names c).After-counts_of-counts)
 
-pub overflow_add-n : goal.overflow_add-n
-overflow_add-n c = omega (arith, few (goal.at.overflow_add-n c).After-counts_of-counts)
+pub overflow_add-names : goal.overflow_add-names
+overflow_add-names c = omega (arith, few (goal.at.overflow_add-names c).After-counts_of-counts)
 
-pub overflow_add-n-2 : goal.overflow_add-n-2
-overflow_add-n-2 c = omega (arith, few (goal.at.overflow_add-n-2 c).After-counts_of-counts)
+pub overflow_add-names-2 : goal.overflow_add-names-2
+overflow_add-names-2 c = omega (arith, few (goal.at.overflow_add-names-2 c).After-counts_of-counts)
 
 pub text_length-length-requires : goal.text_length-length-requires
 text_length-length-requires c = printable c.requires c.counts_of-counts.ensures c.input_starts-starts.ensures (names-counted _ _ c.counts_of-counts.ensures)

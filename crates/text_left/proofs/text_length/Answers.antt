@@ -1,7 +1,6 @@
 -- `text_left::text_length` meets its contract: what is printed into nothing tells its length.
-use Rattle.std.proofs.Common.{to_z-of_z}
 use Rattle.text.specs.Paste.{printed-length}
 use Rattle.text_left.proofs.text_length.Goals as goal
 
 pub returns : goal.returns
-returns c = simp (to_z-of_z c.ranges.offset) at (printed-length c.print_model.ensures)
+returns c = printed-length c.print_model.ensures

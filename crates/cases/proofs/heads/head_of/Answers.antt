@@ -17,8 +17,8 @@ returns c =
       le-ltb _ _ c.if-s-lt8.false,
       le-ltb _ _ c.if-form-gt1.false,
       le-ltb _ _ c.if-job-gt1.false,
-      c.job_of.ensures,
+      c.from.ensures,
       c.form_of.ensures,
-      c.word_at-length.ensures,
-      c.half_at-values.ensures,
+      c.word_at.ensures,
+      c.half_at.ensures,
     )

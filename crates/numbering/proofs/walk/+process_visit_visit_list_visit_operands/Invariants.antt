@@ -3,7 +3,7 @@
 -- Assumes nothing.
 use Rattle.std.proofs.Common.{◌-◌, ◌+◌, ◌*◌}
 use Rattle.circuit.specs.Meaning.{list_of}
-use Rattle.numbering.specs.State.{mk}
+use Rattle.numbering.specs.State.{state_of, SameTables}
 use Rattle.numbering.specs.Read.{fields_from, gates_from}
 use Rattle.numbering.proofs.Cycle.{Going}
 use Rattle.numbering.proofs.walk.+process_visit_visit_list_visit_operands.Given as goal
@@ -20,20 +20,14 @@ decreases-visit_list l = 3 * l.at
 abbrev pub decreases-visit_operands : goal.decreases-visit_operands
 decreases-visit_operands l = 3 * l.at
 
--- visit_list: its gates are those that the records from n to `end` name
+-- visit_list: its gates are those that the records from n to the end name
 abbrev pub invariant-visit_list-loop-n : goal.invariant-visit_list-loop-n
 invariant-visit_list-loop-n l =
-    Going l.circuit l.starts l.at (list_of l.circuit l.k) (mk l.initial.qubits l.initial.origins l.initial.roles l.initial.free.0)
-    (gates_from l.circuit 1 l.n (l.end - l.n)) (mk l.qubits l.origins l.roles l.free.0)
-
-abbrev pub decreases-visit_list-loop-n : goal.decreases-visit_list-loop-n
-decreases-visit_list-loop-n l = l.end - l.n
+    Going l.circuit l.starts l.at (list_of l.circuit l.k) (state_of l.initial.naming)
+    (gates_from l.circuit 1 l.n (l.n-end - l.n)) (state_of l.naming) × SameTables l.initial.naming l.naming
 
 -- visit_operands: its gates are the fields from i on
 abbrev pub invariant-visit_operands-loop-i : goal.invariant-visit_operands-loop-i
 invariant-visit_operands-loop-i l =
-    Going l.circuit l.starts l.at (fields_from l.circuit l.at 0 l.n) (mk l.initial.qubits l.initial.origins l.initial.roles l.initial.free.0)
-    (fields_from l.circuit l.at l.i (l.n - l.i)) (mk l.qubits l.origins l.roles l.free.0)
-
-abbrev pub decreases-visit_operands-loop-i : goal.decreases-visit_operands-loop-i
-decreases-visit_operands-loop-i l = l.n - l.i
+    Going l.circuit l.starts l.at (fields_from l.circuit l.at 0 l.n) (state_of l.initial.naming)
+    (fields_from l.circuit l.at l.i (l.n - l.i)) (state_of l.naming) × SameTables l.initial.naming l.naming

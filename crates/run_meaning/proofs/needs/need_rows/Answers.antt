@@ -1,39 +1,61 @@
-use Rattle.std.proofs.Common.{take, arith, refl, sym, ◌∙◌}
-use Rattle.run_meaning.proofs.Rows.{rest-start}
-use Rattle.run_meaning.proofs.Rows.{turns}
+-- `run_meaning::needs::need_rows` meets its contract.
+use Rattle.std.proofs.Common.{arith, drop, refl, sym, ◌∙◌}
+use Rattle.run_values.proofs.Exits.{returned}
 use Rattle.run_meaning.proofs.Left.{left-start, left_as, left-asked, left-on, left-stop, left_end}
+use Rattle.run_meaning.proofs.Rows.{rest-start, row_step, row-pass, row-end, stacked-past, pair-named, pair-next, pair-stacked, pairs-past, pairs-done}
 use Rattle.run_meaning.specs.Ran.{marked, with_higher}
 use Rattle.run_meaning.proofs.needs.need_rows.Goals as goal
+use Rattle.run_meaning.proofs.needs.need_rows.Goals.{then-row-eq1+in_ok-need+then-loop-k-test+else-low_of-q, then-row-eq1+in_ok-need+else-loop-k-test, else-row-eq1}
 
-pub loop-x-init : goal.loop-x-init
-loop-x-init c = (omega arith, omega arith, c.requires.2, left_as (rest-start c.args.names c.args.rows.now (take c.args.count c.args.keys.now) c.requires.2) (left-start (with_higher (take c.args.count c.args.keys.now) (marked 0 c.args.rows.now)) c.requires.0))
+pub loop-q-init : goal.loop-q-init
+loop-q-init c = (
+  omega arith,
+  c.requires.2,
+  left_as (rest-start c.args.on.now.names c.args.rows.now c.args.keys.now c.requires.2) (left-start (with_higher c.args.keys.now (marked 0 c.args.rows.now)) c.requires.0),
+)
 
-pub next_of-n-requires : goal.next_of-n-requires
-next_of-n-requires c = (c.requires.3, λ q e. omega (arith, c.requires.1 q e, c.requires.0.ready.formed.names))
+pub returns-in_err-need : goal.returns-in_err-need
+returns-in_err-need c =
+    returned c.from_residual.result _ c.from_residual.ensures.1
+    (left-stop (left_as (row_step c.args.on.now.names c.args.rows.now c.loop-q.q (drop c.loop-q.k c.args.keys.now) c.loop-q-test.true c.if-row-eq1.true c.loop-q.invariant.1) c.loop-q.invariant.2) refl c.in_err-need.ensures)
 
-pub need-w-requires : goal.need-w-requires
-need-w-requires c = left-asked (left_as (rw (← c.next_of-n.ensures, c.in-Name.is) at (turns c.args.names c.args.rows.now c.args.keys.now c.args.count c.loop-x.q c.loop-x.k c.requires.3 c.requires.1 c.loop-x.invariant.2 c.loop-x.invariant.0 c.loop-x.invariant.1)).is c.loop-x.invariant.3) refl (rw (← c.next_of-n.ensures, c.in-Name.is) at (turns c.args.names c.args.rows.now c.args.keys.now c.args.count c.loop-x.q c.loop-x.k c.requires.3 c.requires.1 c.loop-x.invariant.2 c.loop-x.invariant.0 c.loop-x.invariant.1)).named
+pub loop-k-init : goal.loop-k-init
+loop-k-init c = (
+  c.loop-q.invariant.0,
+  c.loop-q.invariant.1,
+  left-on (left_as (row_step c.args.on.now.names c.args.rows.now c.loop-q.q (drop c.loop-q.k c.args.keys.now) c.loop-q-test.true c.if-row-eq1.true c.loop-q.invariant.1) c.loop-q.invariant.2) refl c.in_ok-need.ensures c.need.auto.values,
+)
 
-pub shape_of-values-then-stops : goal.shape_of-values-then-stops
-shape_of-values-then-stops c = c.need-w.auto.values ∙ c.loop-x.invariant.3.long
+pub need-requires-in-loop-k : goal.need-requires-in-loop-k
+need-requires-in-loop-k c =
+    left-asked (left_as (pair-next c.args.on.now.names c.args.rows.now c.args.keys.now c.loop-q.q c.loop-k.k c.loop-k.invariant.1 c.loop-k-test.true (sym c.low_of.ensures ∙ c.if-low_of-q.true)) c.loop-k.invariant.2) c.high_of.ensures
+    (pair-named c.args.on.now.names c.args.rows.now c.args.keys.now c.loop-q.q c.loop-k.k c.loop-k.invariant.1 c.loop-k-test.true)
 
-pub returns-then-stops : goal.returns-then-stops
-returns-then-stops c = left-stop (left_as (rw (← c.next_of-n.ensures, c.in-Name.is) at (turns c.args.names c.args.rows.now c.args.keys.now c.args.count c.loop-x.q c.loop-x.k c.requires.3 c.requires.1 c.loop-x.invariant.2 c.loop-x.invariant.0 c.loop-x.invariant.1)).is c.loop-x.invariant.3) c.need-w.result c.need-w.new.values refl c.need-w.ensures (sym c.stops.ensures ∙ c.if-stops.true)
+pub returns-in_err-need-2 : goal.returns-in_err-need-2
+returns-in_err-need-2 c =
+    returned c.from_residual-in_err-need-2.result _ c.from_residual-in_err-need-2.ensures.1
+    (left-stop (left_as (pair-next c.args.on.now.names c.args.rows.now c.args.keys.now c.loop-q.q c.loop-k.k c.loop-k.invariant.1 c.loop-k-test.true (sym c.low_of.ensures ∙ c.if-low_of-q.true)) c.loop-k.invariant.2) c.high_of.ensures c.in_err-need-2.ensures)
 
-pub loop-x-smaller-else-stops : goal.loop-x-smaller-else-stops
-loop-x-smaller-else-stops c = let z = (rw (← c.next_of-n.ensures, c.in-Name.is) at (turns c.args.names c.args.rows.now c.args.keys.now c.args.count c.loop-x.q c.loop-x.k c.requires.3 c.requires.1 c.loop-x.invariant.2 c.loop-x.invariant.0 c.loop-x.invariant.1)) in omega (arith, z.further, z.row, z.pair)
+pub loop-k-preserved : goal.loop-k-preserved
+loop-k-preserved c = (
+  omega (arith, c.loop-k-test.true),
+  pair-stacked c.args.on.now.names c.args.rows.now c.args.keys.now c.loop-q.q c.loop-k.k c.loop-k.invariant.1 c.loop-k-test.true (sym c.low_of.ensures ∙ c.if-low_of-q.true),
+  left-on (left_as (pair-next c.args.on.now.names c.args.rows.now c.args.keys.now c.loop-q.q c.loop-k.k c.loop-k.invariant.1 c.loop-k-test.true (sym c.low_of.ensures ∙ c.if-low_of-q.true)) c.loop-k.invariant.2) c.high_of.ensures c.in_ok-need-2.ensures c.need-in-loop-k.auto.values,
+)
 
-pub loop-x-preserved-else-stops : goal.loop-x-preserved-else-stops
-loop-x-preserved-else-stops c = let z = (rw (← c.next_of-n.ensures, c.in-Name.is) at (turns c.args.names c.args.rows.now c.args.keys.now c.args.count c.loop-x.q c.loop-x.k c.requires.3 c.requires.1 c.loop-x.invariant.2 c.loop-x.invariant.0 c.loop-x.invariant.1)) in (z.row, z.pair, z.stacked, left-on (left_as (rw (← c.next_of-n.ensures, c.in-Name.is) at (turns c.args.names c.args.rows.now c.args.keys.now c.args.count c.loop-x.q c.loop-x.k c.requires.3 c.requires.1 c.loop-x.invariant.2 c.loop-x.invariant.0 c.loop-x.invariant.1)).is c.loop-x.invariant.3) c.need-w.result c.need-w.new.values refl c.need-w.ensures (sym c.stops.ensures ∙ c.if-stops.false) c.need-w.auto.values)
+pub loop-q-preserved : goal.loop-q-preserved
+loop-q-preserved c =
+    elim c.if-row-eq1.branch [
+      | then-row-eq1+in_ok-need+then-loop-k-test+else-low_of-q w ↦
+          rw (w.values-is, w.k-is)
+          (w.loop-k.invariant.0, pairs-past c.args.on.now.names c.args.rows.now c.args.keys.now c.loop-q.q w.loop-k.k w.loop-k.invariant.1 w.loop-k-test.true (λ e. w.if-low_of-q.false (w.low_of.ensures ∙ e)), w.loop-k.invariant.2)
+      | then-row-eq1+in_ok-need+else-loop-k-test w ↦
+          rw (w.values-is, w.k-is)
+          (w.loop-k.invariant.0, pairs-done c.args.on.now.names c.args.rows.now c.args.keys.now c.loop-q.q w.loop-k.k w.loop-k.invariant.1 w.loop-k-test.false, w.loop-k.invariant.2)
+      | else-row-eq1 w ↦
+          rw (w.values-is, w.k-is)
+          (c.loop-q.invariant.0, stacked-past c.args.on.now.names c.args.rows.now c.loop-q.q (drop c.loop-q.k c.args.keys.now) c.loop-q.invariant.1 w.if-row-eq1.false, left_as (row-pass c.args.on.now.names c.args.rows.now c.loop-q.q (drop c.loop-q.k c.args.keys.now) c.loop-q-test.true w.if-row-eq1.false c.loop-q.invariant.1) c.loop-q.invariant.2)
+    ]
 
-pub loop-x-smaller : goal.loop-x-smaller
-loop-x-smaller c = let z = (rw (← c.next_of-n.ensures, c.in-Pass.is) at (turns c.args.names c.args.rows.now c.args.keys.now c.args.count c.loop-x.q c.loop-x.k c.requires.3 c.requires.1 c.loop-x.invariant.2 c.loop-x.invariant.0 c.loop-x.invariant.1)) in omega (arith, z.further, z.row, z.pair)
-
-pub loop-x-preserved : goal.loop-x-preserved
-loop-x-preserved c = let z = (rw (← c.next_of-n.ensures, c.in-Pass.is) at (turns c.args.names c.args.rows.now c.args.keys.now c.args.count c.loop-x.q c.loop-x.k c.requires.3 c.requires.1 c.loop-x.invariant.2 c.loop-x.invariant.0 c.loop-x.invariant.1)) in (z.row, z.pair, z.stacked, left_as z.is c.loop-x.invariant.3)
-
-pub shape_of-values-in-End : goal.shape_of-values-in-End
-shape_of-values-in-End c = c.loop-x.invariant.3.long
-
-pub returns-in-End : goal.returns-in-End
-returns-in-End c = left_end (left_as (rw (← c.next_of-n.ensures, c.in-End.is) at (turns c.args.names c.args.rows.now c.args.keys.now c.args.count c.loop-x.q c.loop-x.k c.requires.3 c.requires.1 c.loop-x.invariant.2 c.loop-x.invariant.0 c.loop-x.invariant.1)) c.loop-x.invariant.3)
+pub returns : goal.returns
+returns c = left_end (left_as (row-end c.args.on.now.names c.args.rows.now c.loop-q.q (drop c.loop-q.k c.args.keys.now) c.loop-q-test.false c.loop-q.invariant.1) c.loop-q.invariant.2)

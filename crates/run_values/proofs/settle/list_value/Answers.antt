@@ -1,42 +1,41 @@
 -- `run_values::settle::list_value` meets its contract: its sum is the number of the bits from i on.
-use native.Mathlib.Nat.{sub_self, sub-zero}
-use Rattle.std.proofs.Common.{add-zero, ◌<◌, ◌≡◌, ◌+◌, ◌-◌, arith, refl, sym}
+use Rattle.std.proofs.Common.{◌<◌, ◌≡◌, ◌+◌, ◌*◌, ◌-◌, ◌^◌, arith, ap, refl, ◌∙◌}
 use Rattle.circuit.specs.File.{field}
 use Rattle.run_rules.specs.Code.{name_in}
-use Rattle.run_rules.specs.Layout.{named}
-use Rattle.run_values.specs.Need.{bit, is_true, number}
-use Rattle.run_values.proofs.Numbers.{turn, turn-fits}
+use Rattle.run_values.specs.Need.{bit, is_true}
+use Rattle.run_values.proofs.Numbers.{byte-is, turn, turn-fits, start, end}
 use Rattle.run_values.proofs.settle.list_value.Goals as goal
+use Rattle.run_values.proofs.settle.list_value.Goals.{After-from}
+
+-- what this turn adds
+added : (c : After-from) → c.from.result ≡ bit (is_true c.args.values.now (name_in c.args.on.now.qubits.now (field c.args.on.now.circuit.now (c.loop-i.i - 1) 1)))
+added c = c.from.ensures ∙ byte-is c.truth.result ∙ ap bit (rw (c.truth.ensures, c.qubit_of-q.ensures, c.field_at.ensures) refl)
+
+some : (c : After-from) → c.args.list.from < c.loop-i.i
+some c = omega (arith, c.loop-i-test.true)
+
+fits : (c : After-from) → c.from.result + 2 * c.loop-i.sum < 2 ^ 64
+fits c =
+    rw (added c)
+    (turn-fits c.args.values.now c.args.on.now.circuit.now c.args.on.now.qubits.now c.args.list.from c.args.list.bits c.loop-i.i c.loop-i.sum (some c) c.loop-i.invariant.1 c.loop-i.invariant.2 c.requires.1)
 
 pub loop-i-init : goal.loop-i-init
-unfolding number named
-loop-i-init c = (omega arith, sym (rw (sub_self c.args.bits) refl))
+loop-i-init c = (omega arith, omega arith, start c.args.values.now c.args.on.now.circuit.now c.args.on.now.qubits.now c.args.list.from c.args.list.bits)
 
 pub overflow_mul-sum : goal.overflow_mul-sum
-overflow_mul-sum c =
-    let l = c.loop-i in
-    let p : 0 < l.i = omega (arith, c.loop-i-test.true) in
-    let f = turn-fits c.args.values.now c.args.circuit.now c.args.qubits.now c.args.from c.args.bits l.i l.sum p l.invariant.0 l.invariant.1 c.requires.1 in
-    record { fits = omega (arith, f) }
+overflow_mul-sum c = record { fits = omega (arith, fits c) }
 
 pub overflow_add-sum : goal.overflow_add-sum
-overflow_add-sum c =
-    let l = c.loop-i in
-    let p : 0 < l.i = omega (arith, c.loop-i-test.true) in
-    let v : c.word_of.result ≡ bit (is_true c.args.values.now (name_in c.args.qubits.now (field c.args.circuit.now (c.args.from + (l.i - 1)) 1))) =
-    rw (c.word_of.ensures, c.truth-b.ensures, c.qubit_of.ensures, c.field_at-g.ensures) refl in
-    let f = turn-fits c.args.values.now c.args.circuit.now c.args.qubits.now c.args.from c.args.bits l.i l.sum p l.invariant.0 l.invariant.1 c.requires.1 in
-    record { fits = rw v f }
+overflow_add-sum c = record { fits = fits c }
 
 pub loop-i-preserved : goal.loop-i-preserved
-loop-i-preserved c =
-    let l = c.loop-i in
-    let p : 0 < l.i = omega (arith, c.loop-i-test.true) in
-    let v : c.word_of.result ≡ bit (is_true c.args.values.now (name_in c.args.qubits.now (field c.args.circuit.now (c.args.from + (l.i - 1)) 1))) =
-    rw (c.word_of.ensures, c.truth-b.ensures, c.qubit_of.ensures, c.field_at-g.ensures) refl in
-    (omega arith, rw v (turn c.args.values.now c.args.circuit.now c.args.qubits.now c.args.from c.args.bits l.i l.sum p l.invariant.0 l.invariant.1))
+loop-i-preserved c = (
+  omega (arith, c.loop-i-test.true),
+  omega arith,
+  rw (added c)
+      (turn c.args.values.now c.args.on.now.circuit.now c.args.on.now.qubits.now c.args.list.from c.args.list.bits c.loop-i.i c.loop-i.sum (some c) c.loop-i.invariant.1 c.loop-i.invariant.2),
+)
 
 pub returns : goal.returns
 returns c =
-    let z : c.loop-i.i ≡ 0 = omega (arith, c.loop-i-test.false) in
-    rw (z, sub-zero c.args.bits, add-zero c.args.from) at c.loop-i.invariant.1
+    end c.args.values.now c.args.on.now.circuit.now c.args.on.now.qubits.now c.args.list.from c.args.list.bits c.loop-i.i c.loop-i.sum (omega (arith, c.loop-i-test.false, c.loop-i.invariant.0)) c.loop-i.invariant.2

@@ -6,7 +6,4 @@ use Rattle.run_values.specs.Need.{number}
 use Rattle.run_values.proofs.settle.list_value.Given as goal
 
 abbrev pub invariant-loop-i : goal.invariant-loop-i
-invariant-loop-i l = (l.i ≤ l.bits) × (l.sum ≡ number l.values (map (name_in l.qubits) (named l.circuit (l.from + l.i) (l.bits - l.i))))
-
-abbrev pub decreases-loop-i : goal.decreases-loop-i
-decreases-loop-i l = l.i
+invariant-loop-i l = (l.fn.list.from ≤ l.i) × (l.i ≤ l.fn.list.from + l.fn.list.bits) × (l.sum ≡ number l.values (map (name_in l.on.qubits.now) (named l.on.circuit.now l.i (l.fn.list.from + l.fn.list.bits - l.i))))

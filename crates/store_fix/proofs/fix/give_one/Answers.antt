@@ -6,5 +6,5 @@ use Rattle.store_fix.proofs.fix.give_one.Goals as goal
 pub returns-else-on : goal.returns-else-on
 returns-else-on c =
     let a = c.args in
-    let both = not-given a.on a.at (get_or a.weights.now a.i (pos 0)) a.linear.now a.present.now c.if-on.false in
+    let both = not-given a.on a.at (get_or a.pairs.now.weights.now a.i (pos 0)) a.linear.now a.present.now c.if-on.false in
     record { linear_after = both.0; present_after = both.1 }

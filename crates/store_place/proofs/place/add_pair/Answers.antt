@@ -20,14 +20,14 @@ join_linear-requires c =
 pub returns-then-p-q-clause-result_after : goal.returns-then-p-q-clause-result_after
 returns-then-p-q-clause-result_after c =
     let a = c.args in
-    λ o f. was-equal o a.linear.now _ a.present.now _ a.rows.now f a.keys.now a.weights.now a.n a.p a.q a.c _ (to_z-of_z c.ranges.c) (λ e. c.if-c-eq0.false (ap (of_z w64) e)) c.if-p-q.true c.join_linear.ensures.linear_after c.join_linear.ensures.present_after
+    λ o f. was-equal o a.linear.now _ a.present.now _ a.rows.now f a.pairs.now.keys.now a.pairs.now.weights.now a.n a.p a.q a.c _ (to_z-of_z c.ranges.c) (λ e. c.if-c-eq0.false (ap (of_z w64) e)) c.if-p-q.true c.join_linear.ensures.linear_after c.join_linear.ensures.present_after
 
 pub returns-clause-result_after : goal.returns-clause-result_after
 returns-clause-result_after c =
     let a = c.args in
-    λ o f. was-new a.keys.now c.append.new.keys a.weights.now c.append.new.weights a.n _ a.p a.q _ a.c _ c.requires.even (to_z-of_z c.ranges.c) (λ e. c.if-c-eq0.false (ap (of_z w64) e)) c.requires.room c.key_of-key.ensures c.append.ensures.value c.append.ensures.weights_after o a.linear.now a.present.now a.rows.now f c.if-p-q.false
+    λ o f. was-new a.pairs.now.keys.now c.append.new.self.keys.now a.pairs.now.weights.now c.append.new.self.weights.now a.n _ a.p a.q _ a.c _ c.requires.even (to_z-of_z c.ranges.c) (λ e. c.if-c-eq0.false (ap (of_z w64) e)) c.requires.room c.key_of-key.ensures c.append.ensures.value c.append.ensures.entries o a.linear.now a.present.now a.rows.now f c.if-p-q.false
 
 pub returns-clause-longer : goal.returns-clause-longer
 returns-clause-longer c =
     let a = c.args in
-    new-longer a.keys.now c.append.new.keys a.weights.now c.append.new.weights a.n _ a.p a.q _ a.c _ c.requires.even (to_z-of_z c.ranges.c) (λ e. c.if-c-eq0.false (ap (of_z w64) e)) c.requires.room c.key_of-key.ensures c.append.ensures.value c.append.ensures.weights_after
+    new-longer a.pairs.now.keys.now c.append.new.self.keys.now a.pairs.now.weights.now c.append.new.self.weights.now a.n _ a.p a.q _ a.c _ c.requires.even (to_z-of_z c.ranges.c) (λ e. c.if-c-eq0.false (ap (of_z w64) e)) c.requires.room c.key_of-key.ensures c.append.ensures.value c.append.ensures.entries

@@ -5,6 +5,8 @@ use Rattle.energy.specs.Model.{halves}
 use Rattle.energy.specs.Mass.{abs-halves}
 use Rattle.store_place.specs.Wiring.{slots_of}
 use Rattle.store_place.proofs.Placing.{pairs-room, pairs-turn, firsts-below, seconds-below, pairs-done}
+use Rattle.store_pairs.specs.Tables.{same-then}
+use Rattle.store_pairs.proofs.Entries.{weights-long}
 use Rattle.store_place.proofs.place.place_pairs.Goals as goal
 
 pub add_pair-m-requires : goal.add_pair-m-requires
@@ -42,7 +44,8 @@ loop-j-preserved c =
     let qs-length : length c.seconds_of-qs.result ≡ 15 = ap length c.seconds_of-qs.ensures in
     let cs-length : length a.cs ≡ 15 = search rules in
     let kept = c.add_pair-m.auto in
-    (omega arith, pairs-turn inv c.requires.few (omega (arith, ps-length)) (omega (arith, qs-length)) (omega (arith, cs-length)) _ (simp (to_z-of_z coef-fits, to_z-of_z halves-fit)) kept.linear kept.present kept.rows kept.keys kept.weights c.add_pair-m.ensures.result_after c.add_pair-m.ensures.longer)
+    let same = c.add_pair-m.ensures.same in
+    (omega arith, pairs-turn inv c.requires.few (omega (arith, ps-length)) (omega (arith, qs-length)) (omega (arith, cs-length)) _ (simp (to_z-of_z coef-fits, to_z-of_z halves-fit)) kept.linear kept.present kept.rows same.long (weights-long same) c.add_pair-m.ensures.result_after c.add_pair-m.ensures.longer, same-then c.loop-j.invariant.2 same)
 
 pub returns-clause-result_after : goal.returns-clause-result_after
 returns-clause-result_after c =

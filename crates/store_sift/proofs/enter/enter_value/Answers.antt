@@ -6,17 +6,17 @@ use Rattle.energy.specs.Mass.{abs-gated, sizes-at}
 use Rattle.store_sift.proofs.Gives.{offset-fits, enter-fits, entered}
 use Rattle.store_sift.proofs.enter.enter_value.Goals as goal
 
-pub overflow_add-offset : goal.overflow_add-offset
-overflow_add-offset c =
+pub overflow_add-result : goal.overflow_add-result
+overflow_add-result c =
     let old = c.args.t.offset in
-    let clear = c.clear_linear-given in
+    let clear = c.enter-given in
     let gift-fits : SFits w64 clear.result = record { sfits = clear.type_inv } in
     let gift-small : nat_abs clear.result ≤ sizes c.args.linear.now = omega (arith, ap nat_abs clear.ensures.value, abs-gated, sizes-at c.args.linear.now c.args.q.0) in
     simp (to_z-of_z (offset-fits c.requires c.args.on), to_z-of_z gift-fits) (fits-abs w64 _ (omega (arith, abs-add old clear.result, gift-small, c.requires.small)))
 
 pub returns : goal.returns
 returns c =
-    let clear = c.clear_linear-given in
+    let clear = c.enter-given in
     let gift-fits : SFits w64 clear.result = record { sfits = clear.type_inv } in
     let sum-fits : SFits w64 (c.args.t.offset +ℤ clear.result) = enter-fits c.requires c.args.on clear.ensures.value in
-    (refl, entered c.requires c.args.on clear.result _ _ clear.ensures.value (simp (to_z-of_z (offset-fits c.requires c.args.on), to_z-of_z gift-fits, to_z-of_z sum-fits)) clear.ensures.linear_after clear.ensures.present_after c.mark_of-mark.ensures)
+    (refl, entered c.requires c.args.on clear.result _ clear.ensures.value (simp (to_z-of_z (offset-fits c.requires c.args.on), to_z-of_z gift-fits, to_z-of_z sum-fits)) clear.ensures.linear_after clear.ensures.present_after clear.ensures.rows_after clear.ensures.fixed_after)

@@ -9,7 +9,7 @@ use Rattle.text_print.proofs.section.put_input.Goals.{After-put_lead-words}
 
 -- the nid that was read leads the line
 lead : (c : After-put_lead-words)
-    → Printed (lead_text (input_of_circuit (circuit_of c.args.c.now) c.args.k).nid) c.args.buf.now c.args.at c.put_lead-words.new.buf c.put_lead-words.result
+    → Printed (lead_text (input_of_circuit (circuit_of c.args.s.circuit.now) c.args.k).nid) c.args.buf.now c.args.at c.put_lead-words.new.buf c.put_lead-words.result
 lead c = printed-as (ap lead_text (sym c.input_nid-nid.ensures)) c.put_lead-words.ensures
 
 pub input_nid-nid-requires : goal.input_nid-nid-requires

@@ -12,40 +12,28 @@ stands : {c qs fs : List ℕ} (r : Readable c qs fs) {st : List ℕ} {n : ℕ} �
 stands r {st} e f k h = place r st e k (omega arith)
 
 pub loop-k-init : goal.loop-k-init
-loop-k-init c = (omega arith, left_as (inputs-all _ _ _) left-start)
+loop-k-init c = left_as (inputs-all _ _ _) left-start
 
-pub offset_bounds-starts-k : goal.offset_bounds-starts-k
-offset_bounds-starts-k c = omega (arith, (stands c.requires.0 c.requires.1 c.requires.2 _ c.loop-k-test.true).small)
+pub offset_bounds-s-k : goal.offset_bounds-s-k
+offset_bounds-s-k c = record { fits = omega (arith, (stands c.requires.0 c.requires.1 c.requires.2 _ c.loop-k-test.true).small) }
 
-pub bounds-starts-k : goal.bounds-starts-k
-bounds-starts-k c = omega (arith, (stands c.requires.0 c.requires.1 c.requires.2 _ c.loop-k-test.true).small)
+pub bounds-s-k : goal.bounds-s-k
+bounds-s-k c = omega (arith, (stands c.requires.0 c.requires.1 c.requires.2 _ c.loop-k-test.true).small)
 
-pub overflow_cast-first : goal.overflow_cast-first
-overflow_cast-first c = omega (arith, (stands c.requires.0 c.requires.1 c.requires.2 _ c.loop-k-test.true).some, (stands c.requires.0 c.requires.1 c.requires.2 _ c.loop-k-test.true).within)
+pub offset_bounds-s-k-in-loop-k : goal.offset_bounds-s-k-in-loop-k
+offset_bounds-s-k-in-loop-k c = record { fits = omega (arith, (stands c.requires.0 c.requires.1 c.requires.2 _ c.loop-k-test.true).small) }
 
-pub overflow_add-last : goal.overflow_add-last
-overflow_add-last c = omega (arith, (stands c.requires.0 c.requires.1 c.requires.2 _ c.loop-k-test.true).small)
+pub bounds-s-k-in-loop-k : goal.bounds-s-k-in-loop-k
+bounds-s-k-in-loop-k c = omega (arith, (stands c.requires.0 c.requires.1 c.requires.2 _ c.loop-k-test.true).small)
 
-pub offset_bounds-starts-k-in-loop-k : goal.offset_bounds-starts-k-in-loop-k
-offset_bounds-starts-k-in-loop-k c = omega (arith, (stands c.requires.0 c.requires.1 c.requires.2 _ c.loop-k-test.true).small)
-
-pub bounds-starts-k-in-loop-k : goal.bounds-starts-k-in-loop-k
-bounds-starts-k-in-loop-k c = omega (arith, (stands c.requires.0 c.requires.1 c.requires.2 _ c.loop-k-test.true).small)
-
-pub overflow_cast-last : goal.overflow_cast-last
-overflow_cast-last c = omega (arith, (stands c.requires.0 c.requires.1 c.requires.2 _ c.loop-k-test.true).within)
-
-pub overflow_sub-last : goal.overflow_sub-last
-overflow_sub-last c = omega (arith, (stands c.requires.0 c.requires.1 c.requires.2 _ c.loop-k-test.true).some)
+pub overflow_sub-bits : goal.overflow_sub-bits
+overflow_sub-bits c = omega (arith, (stands c.requires.0 c.requires.1 c.requires.2 _ c.loop-k-test.true).some)
 
 pub put_input-next-requires : goal.put_input-next-requires
-put_input-next-requires c = (c.requires.0, c.requires.1, omega (arith, c.requires.2, c.loop-k-test.true), (stands c.requires.0 c.requires.1 c.requires.2 _ c.loop-k-test.true).size, room-first _ (left-room c.requires.3 (left_as (inputs-next _ _ _ c.loop-k.k (omega (arith, c.requires.2, c.loop-k-test.true))) c.loop-k.invariant.1)))
+put_input-next-requires c = (c.requires.0, c.requires.1, omega (arith, c.requires.2, c.loop-k-test.true), (stands c.requires.0 c.requires.1 c.requires.2 _ c.loop-k-test.true).size, room-first _ (left-room c.requires.3 (left_as (inputs-next _ _ _ c.loop-k.k (omega (arith, c.requires.2, c.loop-k-test.true))) c.loop-k.invariant)))
 
 pub loop-k-preserved : goal.loop-k-preserved
-loop-k-preserved c = (omega arith, left-print (left_as (inputs-next _ _ _ c.loop-k.k (omega (arith, c.requires.2, c.loop-k-test.true))) c.loop-k.invariant.1) c.put_input-next.ensures)
-
-pub shape_of-buf : goal.shape_of-buf
-shape_of-buf c = c.loop-k.invariant.1.size
+loop-k-preserved c = left-print (left_as (inputs-next _ _ _ c.loop-k.k (omega (arith, c.requires.2, c.loop-k-test.true))) c.loop-k.invariant) c.put_input-next.ensures
 
 pub returns : goal.returns
-returns c = left_end (left_as (inputs-none _ _ _ _ (omega (arith, c.requires.2, c.loop-k-test.false))) c.loop-k.invariant.1)
+returns c = left_end (left_as (inputs-none _ _ _ _ (omega (arith, c.requires.2, c.loop-k-test.false))) c.loop-k.invariant)
