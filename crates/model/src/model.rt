@@ -1,8 +1,7 @@
 // From blank tables to the finished model: rows placed and settled, qubits fixed, the form turned, the variables counted.
 ghost use Rattle.std.specs.Prelude.{◌≡◌, length, replicate};
-ghost use Rattle.circuit.specs.Meaning.{circuit_of};
-ghost use Rattle.numbering.specs.State.{mk, names_of};
-ghost use Rattle.model_rows.specs.Laid.{Good};
+ghost use Rattle.numbering.specs.State.{names_of};
+ghost use Rattle.model_rows.specs.Lent.{circuit_in, state_in, GoodIn};
 ghost use Rattle.model.specs.Steps.{placed_of};
 ghost use Rattle.model_place.specs.Blank.{Blank, pairs_of};
 ghost use Rattle.model_fixes.specs.Fixing.{Holds};
@@ -26,8 +25,8 @@ pub fn place_model(
     keys: &mut [u32],
     weights: &mut [i64],
 ) -> Totals
-    requires { Good numbered.circuit.now numbered.bads numbered.constraints (mk numbered.qubits.now numbered.origins.now numbered.roles.now numbered.next.0) × Blank (names_of (circuit_of numbered.circuit.now)) (pairs_of (circuit_of numbered.circuit.now)) linear.old present.old rows.old keys.old weights.old }
-    ensures { Holds (pairs_of (circuit_of numbered.entry.circuit.now)) (placed_of (circuit_of numbered.entry.circuit.now) (mk numbered.entry.qubits.now numbered.entry.origins.now numbered.entry.roles.now numbered.entry.next.0)) result linear.new present.new rows.new (replicate (names_of (circuit_of numbered.entry.circuit.now)) 0) keys.new weights.new }
+    requires { GoodIn numbered × Blank (names_of (circuit_in numbered)) (pairs_of (circuit_in numbered)) linear.old present.old rows.old keys.old weights.old }
+    ensures { Holds (pairs_of (circuit_in numbered.entry)) (placed_of (circuit_in numbered.entry) (state_in numbered.entry)) result linear.new present.new rows.new (replicate (names_of (circuit_in numbered.entry)) 0) keys.new weights.new }
 {
     let t = place_all(numbered, linear, present, rows, keys, weights);
     settle_all(keys, weights, t)
@@ -44,8 +43,8 @@ pub fn make_model(
     keys: &mut [u32],
     weights: &mut [i64],
 ) -> Result<Counted, Clash>
-    requires { Good numbered.circuit.now numbered.bads numbered.constraints (mk numbered.qubits.now numbered.origins.now numbered.roles.now numbered.next.0) × Blank (names_of (circuit_of numbered.circuit.now)) (pairs_of (circuit_of numbered.circuit.now)) linear.old present.old rows.old keys.old weights.old × (fixed.old ≡ replicate (names_of (circuit_of numbered.circuit.now)) 0) × (numbered.states ≡ length (circuit_of numbered.circuit.now).bads) × (numbered.count ≡ length (circuit_of numbered.circuit.now).constraints) }
-    ensures { ModelledAs form (circuit_of numbered.entry.circuit.now) (mk numbered.entry.qubits.now numbered.entry.origins.now numbered.entry.roles.now numbered.entry.next.0) result linear.new present.new rows.new fixed.new keys.new weights.new }
+    requires { GoodIn numbered × Blank (names_of (circuit_in numbered)) (pairs_of (circuit_in numbered)) linear.old present.old rows.old keys.old weights.old × (fixed.old ≡ replicate (names_of (circuit_in numbered)) 0) × (numbered.states ≡ length (circuit_in numbered).bads) × (numbered.count ≡ length (circuit_in numbered).constraints) }
+    ensures { ModelledAs form (circuit_in numbered.entry) (state_in numbered.entry) result linear.new present.new rows.new fixed.new keys.new weights.new }
 {
     let t = place_model(numbered, linear, present, rows, keys, weights);
     let t = fix_all(numbered, linear, present, rows, fixed, keys, weights, t)?;

@@ -3,11 +3,10 @@
 #![tactic(auto)]
 
 ghost use Rattle.std.specs.Prelude.{List, ◌≡◌, ℕ};
-ghost use Rattle.circuit.specs.Meaning.{circuit_of};
-ghost use Rattle.numbering.specs.State.{mk, names_of};
+ghost use Rattle.numbering.specs.State.{names_of};
 ghost use Rattle.store.specs.Tables.{tables, model_of, hold};
+ghost use Rattle.model_rows.specs.Lent.{circuit_in, state_in, GoodIn};
 ghost use Rattle.model_rows.specs.Found.{placed_by};
-ghost use Rattle.model_rows.specs.Laid.{Good};
 ghost use Rattle.model_place.specs.Blank.{Blank, CanPlace, Logged, pairs_of};
 
 use model_rows::{Numbered, Placed, row_at};
@@ -45,8 +44,8 @@ pub fn place_all(
     keys: &mut [u32],
     weights: &mut [i64],
 ) -> Totals
-    requires { Good numbered.circuit.now numbered.bads numbered.constraints (mk numbered.qubits.now numbered.origins.now numbered.roles.now numbered.next.0) × Blank (names_of (circuit_of numbered.circuit.now)) (pairs_of (circuit_of numbered.circuit.now)) linear.old present.old rows.old keys.old weights.old }
-    ensures { Logged (circuit_of numbered.entry.circuit.now) (mk numbered.entry.qubits.now numbered.entry.origins.now numbered.entry.roles.now numbered.entry.next.0) numbered.entry.next.0 result linear.new present.new rows.new keys.new weights.new }
+    requires { GoodIn numbered × Blank (names_of (circuit_in numbered)) (pairs_of (circuit_in numbered)) linear.old present.old rows.old keys.old weights.old }
+    ensures { Logged (circuit_in numbered.entry) (state_in numbered.entry) numbered.entry.next.0 result linear.new present.new rows.new keys.new weights.new }
 {
     let mut t = Totals {
         offset: 0,

@@ -1,3 +1,4 @@
 pub mod Laid
 pub mod Found
 pub mod Rowed
+pub mod Lent

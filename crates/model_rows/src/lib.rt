@@ -4,11 +4,9 @@
 ghost use Rattle.std.specs.Prelude.{[], ◌∷◌, ◌≡◌, ◌-◌, ◌≤◌, ◌<◌, length, get_or};
 ghost use Rattle.energy.specs.Plain.{more, mid};
 ghost use Rattle.circuit.specs.File.{field, kind_at};
-ghost use Rattle.circuit.specs.Meaning.{circuit_of};
-ghost use Rattle.numbering.specs.State.{mk};
 ghost use Rattle.numbering.specs.Numbered.{row_of};
+ghost use Rattle.model_rows.specs.Lent.{circuit_in, state_in, GoodIn};
 ghost use Rattle.model_rows.specs.Found.{ruled_by, second, third, row_at, rows_by, join_at, wires_of, found};
-ghost use Rattle.model_rows.specs.Laid.{Good};
 ghost use Rattle.model_rows.specs.Rowed.{Has, Operands, Ruling, Joining};
 
 use circuit::GateKind;
@@ -165,8 +163,8 @@ pub fn join_row(circuit: &[u8], bads: usize, qubits: &[u16], j: usize, q: u16) -
 
 // The row of the name `q`, if it has one.
 pub fn row_at(numbered: Numbered, q: usize) -> Option<Placed>
-    requires { Good numbered.circuit.now numbered.bads numbered.constraints (mk numbered.qubits.now numbered.origins.now numbered.roles.now numbered.next.0) × (2 ≤ q) × (q < numbered.next.0) }
-    ensures { result ≡ found (row_of (circuit_of numbered.entry.circuit.now) (mk numbered.entry.qubits.now numbered.entry.origins.now numbered.entry.roles.now numbered.entry.next.0) q) }
+    requires { GoodIn numbered × (2 ≤ q) × (q < numbered.next.0) }
+    ensures { result ≡ found (row_of (circuit_in numbered.entry) (state_in numbered.entry) q) }
 {
     let Numbered {
         circuit,

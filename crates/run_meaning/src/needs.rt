@@ -3,7 +3,7 @@ ghost use Rattle.std.specs.Prelude.{◌≡◌, ◌++◌, length};
 ghost use Rattle.circuit.specs.Meaning.{circuit_of};
 ghost use Rattle.run_values.specs.Need.{went, each, need_of};
 ghost use Rattle.run_meaning.specs.Ran.{marked, with_higher, bad_qubits};
-ghost use Rattle.run_values.specs.Asking.{state_in, net_in, NeedsAsked};
+ghost use Rattle.run_values.specs.Asking.{state_in, net_in, NeedsIn};
 ghost use Rattle.run_meaning.specs.Layout.{Flags, Stacked};
 
 use circuit_records::field_at;
@@ -16,7 +16,7 @@ use units::Qubit;
 
 // The linear entries.
 pub fn need_linear(on: &NumberedCircuit, values: &mut [u8], flags: &[u8]) -> Result<(), Stop>
-    requires { NeedsAsked on.now.circuit.now on.now.starts.now on.now.bads (state_in on.now) on.now.fixed.now values.old × Flags on.now.names flags.now }
+    requires { NeedsIn on.now values.old × Flags on.now.names flags.now }
     ensures { went result values.new ≡ each (need_of (net_in on.now)) (marked 0 flags.now) values.old }
 {
     for (q, flag) in flags.iter().enumerate() {
@@ -34,7 +34,7 @@ pub fn need_rows(
     rows: &[u8],
     keys: &[u32],
 ) -> Result<(), Stop>
-    requires { NeedsAsked on.now.circuit.now on.now.starts.now on.now.bads (state_in on.now) on.now.fixed.now values.old × Flags on.now.names rows.now × Stacked on.now.names rows.now 0 keys.now }
+    requires { NeedsIn on.now values.old × Flags on.now.names rows.now × Stacked on.now.names rows.now 0 keys.now }
     ensures { went result values.new ≡ each (need_of (net_in on.now)) (with_higher keys.now (marked 0 rows.now)) values.old }
 {
     let mut k = 0;
@@ -53,7 +53,7 @@ pub fn need_rows(
 
 // The bad states, of which there are `total`.
 pub fn need_bads(on: &NumberedCircuit, values: &mut [u8], total: usize) -> Result<(), Stop>
-    requires { NeedsAsked on.now.circuit.now on.now.starts.now on.now.bads (state_in on.now) on.now.fixed.now values.old × (total ≡ length (circuit_of on.now.circuit.now).bads) }
+    requires { NeedsIn on.now values.old × (total ≡ length (circuit_of on.now.circuit.now).bads) }
     ensures { went result values.new ≡ each (need_of (net_in on.now)) (bad_qubits (circuit_of on.now.circuit.now) (state_in on.now)) values.old }
 {
     for n in on.bads..on.bads + total {
@@ -72,7 +72,7 @@ pub fn need_all(
     keys: &[u32],
     total: usize,
 ) -> Result<(), Stop>
-    requires { NeedsAsked on.now.circuit.now on.now.starts.now on.now.bads (state_in on.now) on.now.fixed.now values.old × (total ≡ length (circuit_of on.now.circuit.now).bads) × Flags on.now.names flags.now × Flags on.now.names rows.now × Stacked on.now.names rows.now 0 keys.now }
+    requires { NeedsIn on.now values.old × (total ≡ length (circuit_of on.now.circuit.now).bads) × Flags on.now.names flags.now × Flags on.now.names rows.now × Stacked on.now.names rows.now 0 keys.now }
     ensures { went result values.new ≡ each (need_of (net_in on.now)) (marked 0 flags.now ++ (with_higher keys.now (marked 0 rows.now) ++ bad_qubits (circuit_of on.now.circuit.now) (state_in on.now))) values.old }
 {
     need_linear(on, values, flags)?;

@@ -3,7 +3,7 @@
 
 ghost use Rattle.std.specs.Prelude.{◌≡◌};
 ghost use Rattle.run_values.specs.Need.{went, need_of};
-ghost use Rattle.run_values.specs.Asking.{state_in, net_in, follow_of, Asked};
+ghost use Rattle.run_values.specs.Asking.{net_in, follow_of, AskedIn};
 ghost use Rattle.run_values.specs.Code.{fixed_bit};
 
 use run_operands::{count_of, operand_at, operands_of};
@@ -23,7 +23,7 @@ fn fixed_byte(f: u8) -> u8
 // The value of q is found, and stands in the table afterwards.
 #[cycle(follow_need)]
 pub fn need(on: &NumberedCircuit, values: &mut [u8], q: Qubit) -> Result<(), Stop>
-    requires { Asked on.now.circuit.now on.now.starts.now on.now.bads (state_in on.now) on.now.fixed.now values.old q.0 }
+    requires { AskedIn on.now values.old q.0 }
     ensures { went result values.new ≡ need_of (net_in on.now) q.0 values.old }
 {
     let at = usize::from(q.0);
@@ -41,7 +41,7 @@ pub fn need(on: &NumberedCircuit, values: &mut [u8], q: Qubit) -> Result<(), Sto
 // The value of q by its rule.
 #[cycle(follow_need)]
 pub fn follow(on: &NumberedCircuit, values: &mut [u8], q: Qubit) -> Result<(), Stop>
-    requires { Asked on.now.circuit.now on.now.starts.now on.now.bads (state_in on.now) on.now.fixed.now values.old q.0 }
+    requires { AskedIn on.now values.old q.0 }
     ensures { went result values.new ≡ follow_of (net_in on.now) q.0 values.old }
 {
     let rule = rule_at(on, q);

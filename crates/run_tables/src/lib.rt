@@ -8,7 +8,7 @@ ghost use Rattle.run_meaning.specs.Ran.{done, refusal, answer, setting_of, marke
 ghost use Rattle.run_give.specs.Asked.{InputsAsked};
 ghost use Rattle.run_tables.specs.Listed.{listed_of, true_from};
 ghost use Rattle.run_tables.specs.Lent.{built_by};
-ghost use Rattle.run_values.specs.Asking.{state_in, net_in, NeedsAsked};
+ghost use Rattle.run_values.specs.Asking.{state_in, net_in, NeedsIn};
 ghost use Rattle.run_meaning.specs.Layout.{RunReady, Flags, Stacked};
 ghost use Rattle.run_meaning.specs.Give.{give_all};
 ghost use Rattle.energy.specs.Model.{energy_in};
@@ -73,7 +73,7 @@ fn find_values(
     values: &mut [u8],
     inputs: &[i64],
 ) -> Result<(), Stop>
-    requires { InputsAsked on.now.circuit.now input_starts.now on.now.qubits.now (length values.old) inputs.now × NeedsAsked on.now.circuit.now on.now.starts.now on.now.bads (state_in on.now) on.now.fixed.now values.old × (total ≡ length (circuit_of on.now.circuit.now).bads) × Flags on.now.names model.now.flags.now × Flags on.now.names model.now.rows.now × Stacked on.now.names model.now.rows.now 0 (take model.now.totals.count model.now.keys.now) × (model.now.totals.count ≤ length model.now.keys.now) }
+    requires { InputsAsked on.now.circuit.now input_starts.now on.now.qubits.now (length values.old) inputs.now × NeedsIn on.now values.old × (total ≡ length (circuit_of on.now.circuit.now).bads) × Flags on.now.names model.now.flags.now × Flags on.now.names model.now.rows.now × Stacked on.now.names model.now.rows.now 0 (take model.now.totals.count model.now.keys.now) × (model.now.totals.count ≤ length model.now.keys.now) }
     ensures { went result values.new ≡ and_then (give_all on.now.qubits.now 0 (circuit_of on.now.circuit.now).inputs inputs.now values.old) (each (need_of (net_in on.now)) (marked 0 model.now.flags.now ++ (with_higher (take model.now.totals.count model.now.keys.now) (marked 0 model.now.rows.now) ++ bad_qubits (circuit_of on.now.circuit.now) (state_in on.now)))) }
 {
     give_all(on, input_starts, values, inputs)?;

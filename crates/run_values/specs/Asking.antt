@@ -36,3 +36,10 @@ pub record Asked (b starts : List ℕ) (bad_from : ℕ) (s : State) (fixed t : L
 pub record NeedsAsked (b starts : List ℕ) (bad_from : ℕ) (s : State) (fixed t : List ℕ) : Type 0 where
   pub ready : Ready b starts bad_from s fixed
   pub values : s.next ≤ length t
+
+-- the same of a numbered circuit
+abbrev pub AskedIn : NumberedCircuit → List ℕ → ℕ → Type 0
+AskedIn u values q = Asked u.circuit.now u.starts.now u.bads (state_in u) u.fixed.now values q
+
+abbrev pub NeedsIn : NumberedCircuit → List ℕ → Type 0
+NeedsIn u values = NeedsAsked u.circuit.now u.starts.now u.bads (state_in u) u.fixed.now values

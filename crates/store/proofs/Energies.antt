@@ -5,12 +5,12 @@ use mathlib.Core.List.{List, [], ◌∷◌}
 use mathlib.Core.Path.{◌≡◌, refl, sym, ap, ap₂, ◌∙◌}
 use Prim.Native.Nat.{ℕ, suc, ◌+◌, ◌≤◌, ◌<◌}
 use native.Mathlib.Numerals.{add-one}
-use Rattle.std.proofs.Common.{add-zero, ◌≢◌, ◌⊎◌}
+use Rattle.std.proofs.Common.{add-zero, ◌≢◌, ◌⊎◌, inl, inr}
 use Rattle.std.proofs.lemmas.Bool.Decides.{nat_tests}
 use native.Mathlib.Omega.{arith}
-use lib.IntN.{ℤ, pos, nat_abs, ◌+ℤ◌, +ℤ_assoc, +ℤ_idr}
+use lib.IntN.{ℤ, pos, nat_abs, ◌+ℤ◌, +ℤ_assoc, +ℤ_idl, +ℤ_idr}
 use lib.ListN.{length, take, drop, get_or, drop_of_length-le}
-use lib.Seq.{slice, slice-cons, slice_empty, drop-cons}
+use lib.Seq.{drop-cons}
 use mir.Syntax.{w64}
 use mir.Val.{SFits}
 use Rattle.laws.specs.Abs.{abs-add, fits-abs}
@@ -19,8 +19,8 @@ use Rattle.units.specs.declared.Form.TheVariants.{Binary, Ising}
 use Rattle.energy.specs.Plain.{Setting}
 use Rattle.energy.specs.Model.{Entry, Inside, low, high, counted, linear_by, pairs_by, energy_by, energy_in, sizes}
 use Rattle.energy.specs.Mass.{abs-gated, abs-signed, linear-size, pairs-size}
-use Rattle.store_pairs.specs.Store.{zip, none, load}
-use Rattle.store_pairs.proofs.Tables.{length-zip, zip-at}
+use Rattle.store_pairs.specs.Store.{zip, load}
+use Rattle.store_pairs.proofs.Tables.{zip-nil}
 use Rattle.store.specs.declared.Totals.{Totals}
 use Rattle.store.specs.Tables.{tables, model_of, one_at}
 use Rattle.store.specs.Evaluating.{weight_in, joint_in, energy-in, Evaluating}
@@ -113,11 +113,11 @@ weigh-done {form} {σ} {l} {e} {i} m done =
 
 -- ---- the pairs
 
-pub record Joining (form : Form) (j : Bool → Bool → Bool) (σ : Setting) (k : ℕ) (T : List Entry) (n : ℕ) (e : ℤ) (i : ℕ) : Type 0 where
-  pub within : i ≤ n
-  pub small : nat_abs e + load (slice i n T) ≤ load (take n T)
-  pub whole : e +ℤ pairs_by (weight_in form) j σ (slice i n T) ≡ pairs_by (weight_in form) j σ (take n T)
-  pub inside : Inside k (slice i n T)
+-- T is summed, s is left of it
+pub record Joining (form : Form) (j : Bool → Bool → Bool) (σ : Setting) (k : ℕ) (T : List Entry) (e : ℤ) (s : List Entry) : Type 0 where
+  pub small : nat_abs e + load s ≤ load T
+  pub whole : e +ℤ pairs_by (weight_in form) j σ s ≡ pairs_by (weight_in form) j σ T
+  pub inside : Inside k s
 
 pairs-cons : (f : Bool → ℤ → ℤ) (j : Bool → Bool → Bool) (σ : Setting) (x : Entry) (s : List Entry)
     → pairs_by f j σ (x ∷ s) ≡ f (j (σ (low x.0)) (σ (high x.0))) x.1 +ℤ pairs_by f j σ s
@@ -128,53 +128,60 @@ pairs-nil : (f : Bool → ℤ → ℤ) (j : Bool → Bool → Bool) (σ : Settin
 unfolding pairs_by
 pairs-nil f j σ = refl
 
-module _ {form : Form} {j : Bool → Bool → Bool} {σ : Setting} {k : ℕ} (ks : List ℕ) (ws : List ℤ) {n : ℕ} {e : ℤ} {i : ℕ}
-    (even : length ws ≡ length ks) (fits : n ≤ length ks) (m : Joining form j σ k (zip ks ws) n e i) (more : i < n) where
-  next : slice i n (zip ks ws) ≡ (get_or ks i 0, get_or ws i (pos 0)) ∷ slice (suc i) n (zip ks ws)
-  next =
-      let all = length-zip ks ws even in
-      let room : n ≤ length (zip ks ws) = omega arith in
-      slice-cons i n (zip ks ws) none more room ∙ ap (λ (x : Entry). x ∷ slice (suc i) n (zip ks ws)) (zip-at ks ws i even)
+-- before the first
+pub join-starts : (form : Form) (j : Bool → Bool → Bool) (σ : Setting) (k : ℕ) (T : List Entry) {s : List Entry} → s ≡ T → Inside k T → Joining form j σ k T (pos 0) s
+join-starts form j σ k T same inside =
+    record {
+      small = omega (arith, ap load same);
+      whole = ap (λ (t : List Entry). pos 0 +ℤ pairs_by (weight_in form) j σ t) same ∙ +ℤ_idl (pairs_by (weight_in form) j σ T);
+      inside = rw same inside;
+    }
+
+module _ {form : Form} {j : Bool → Bool → Bool} {σ : Setting} {k : ℕ} {T : List Entry} {e : ℤ} {ks ls : List ℕ} {ws vs : List ℤ} {key : ℕ} {weight : ℤ}
+    (m : Joining form j σ k T e (zip ks ws)) (step : (ks ≡ key ∷ ls) × (ws ≡ weight ∷ vs)) where
+  next : zip ks ws ≡ (key, weight) ∷ zip ls vs
+  next = ap₂ zip step.0 step.1
 
   abbrev term : ℤ
-  term = weight_in form (j (σ (low (get_or ks i 0))) (σ (high (get_or ks i 0)))) (get_or ws i (pos 0))
+  term = weight_in form (j (σ (low key)) (σ (high key))) weight
 
-  next-inside : Inside k ((get_or ks i 0, get_or ws i (pos 0)) ∷ slice (suc i) n (zip ks ws))
+  next-inside : Inside k ((key, weight) ∷ zip ls vs)
   next-inside = rw next at m.inside
 
-  pub low_below : low (get_or ks i 0) < k
+  pub low_below : low key < k
   low_below = omega (arith, next-inside.0, next-inside.1)
 
-  pub high-below : high (get_or ks i 0) < k
+  pub high-below : high key < k
   high-below = next-inside.1
 
-  pub weight-below : nat_abs (get_or ws i (pos 0)) ≤ load (take n (zip ks ws))
+  pub weight-below : nat_abs weight ≤ load T
   weight-below = omega (arith, m.small, ap load next)
 
-  pub join-small : (x : ℤ) → x ≡ term → nat_abs (e +ℤ x) ≤ load (take n (zip ks ws))
+  pub join-small : (x : ℤ) → x ≡ term → nat_abs (e +ℤ x) ≤ load T
   join-small x is =
-      omega (arith, m.small, ap load next, abs-add e x, ap nat_abs is, weight-small form (j (σ (low (get_or ks i 0))) (σ (high (get_or ks i 0)))) (get_or ws i (pos 0)))
+      omega (arith, m.small, ap load next, abs-add e x, ap nat_abs is, weight-small form (j (σ (low key)) (σ (high key))) weight)
 
-  pub join-turn : {t : ℤ} (x : ℤ) → x ≡ term → t ≡ e +ℤ x → Joining form j σ k (zip ks ws) n t (i + 1)
+  pub join-turn : {t : ℤ} (x : ℤ) → x ≡ term → t ≡ e +ℤ x → Joining form j σ k T t (zip ls vs)
   join-turn {t} x is sum =
-      rw add-one
-      (record {
-        within = omega arith;
-        small = omega (arith, m.small, ap load next, abs-add e x, ap nat_abs is, ap nat_abs sum, weight-small form (j (σ (low (get_or ks i 0))) (σ (high (get_or ks i 0)))) (get_or ws i (pos 0)));
+      record {
+        small = omega (arith, m.small, ap load next, abs-add e x, ap nat_abs is, ap nat_abs sum, weight-small form (j (σ (low key)) (σ (high key))) weight);
         whole =
-            ap (λ (z : ℤ). z +ℤ pairs_by (weight_in form) j σ (slice (suc i) n (zip ks ws))) (sum ∙ ap (λ (z : ℤ). e +ℤ z) is)
-            ∙ +ℤ_assoc e term (pairs_by (weight_in form) j σ (slice (suc i) n (zip ks ws)))
-            ∙ ap (λ (z : ℤ). e +ℤ z) (sym (ap (pairs_by (weight_in form) j σ) next ∙ pairs-cons (weight_in form) j σ (get_or ks i 0, get_or ws i (pos 0)) (slice (suc i) n (zip ks ws))))
+            ap (λ (z : ℤ). z +ℤ pairs_by (weight_in form) j σ (zip ls vs)) (sum ∙ ap (λ (z : ℤ). e +ℤ z) is)
+            ∙ +ℤ_assoc e term (pairs_by (weight_in form) j σ (zip ls vs))
+            ∙ ap (λ (z : ℤ). e +ℤ z) (sym (ap (pairs_by (weight_in form) j σ) next ∙ pairs-cons (weight_in form) j σ (key, weight) (zip ls vs)))
             ∙ m.whole;
         inside = next-inside.2;
-      })
+      }
 
-pub join-done : {form : Form} {j : Bool → Bool → Bool} {σ : Setting} {k : ℕ} {T : List Entry} {n : ℕ} {e : ℤ} {i : ℕ} → Joining form j σ k T n e i → n ≤ i
-    → e ≡ pairs_by (weight_in form) j σ (take n T)
-join-done {form} {j} {σ} {k} {T} {n} {e} {i} m done =
-    let at : i ≡ n = omega arith in
+zip-none : (ks : List ℕ) (ws : List ℤ) → (ks ≡ []) ⊎ (ws ≡ []) → zip ks ws ≡ []
+zip-none ks ws (inl h) = ap (λ (ks : List ℕ). zip ks ws) h
+zip-none ks ws (inr h) = ap (zip ks) h ∙ zip-nil ks
+
+pub join-done : {form : Form} {j : Bool → Bool → Bool} {σ : Setting} {k : ℕ} {T : List Entry} {e : ℤ} {ks : List ℕ} {ws : List ℤ} → Joining form j σ k T e (zip ks ws)
+    → (ks ≡ []) ⊎ (ws ≡ []) → e ≡ pairs_by (weight_in form) j σ T
+join-done {form} {j} {σ} {k} {T} {e} {ks} {ws} m done =
     sym (+ℤ_idr e)
-    ∙ ap (λ (z : ℤ). e +ℤ z) (sym (ap (pairs_by (weight_in form) j σ) (ap (λ (i : ℕ). slice i n T) at ∙ slice_empty n T) ∙ pairs-nil (weight_in form) j σ))
+    ∙ ap (λ (z : ℤ). e +ℤ z) (sym (ap (pairs_by (weight_in form) j σ) (zip-none ks ws done) ∙ pairs-nil (weight_in form) j σ))
     ∙ m.whole
 
 -- ---- the two sums, and the offset with them, are in range, and are the energy

@@ -71,9 +71,9 @@ fn pair_energy(keys: &[u32], weights: &[i64], n: usize, values: &[u8], form: For
     ensures { result ≡ pairs_by (weight_in form) (joint_in form) (setting_of values.now) (take n (zip keys.now weights.now)) }
 {
     let mut e: i64 = 0;
-    for i in 0..n {
-        let on = pair_value(keys[i], values, form);
-        let x = times(form, on, weights[i]);
+    for (key, weight) in keys[..n].iter().zip(&weights[..n]) {
+        let on = pair_value(*key, values, form);
+        let x = times(form, on, *weight);
         e += x;
     }
     e

@@ -80,6 +80,10 @@ ends-nil m = refl
 
 -- ---- the pass over the pairs
 
+-- as many weights are in use as pairs
+pub used-long : (ks : List ℕ) (ws : List ℤ) (n : ℕ) → length ws ≡ length ks → n ≤ length ks → length (take n ws) ≡ n
+used-long ks ws n even fits = length-take-le n ws (omega arith)
+
 pub record Turns (ks : List ℕ) (ws₀ : List ℤ) (n : ℕ) (l₀ : List ℤ) (h₀ : List ℕ) (ws : List ℤ) (l : List ℤ) (h : List ℕ) (i : ℕ) : Type 0 where
   pub within : i ≤ n
   pub weights : length ws ≡ length ks
@@ -212,7 +216,7 @@ module _ {ks : List ℕ} {ws₀ : List ℤ} {n : ℕ} {l₀ : List ℤ} {h₀ : 
 pub weights-used : (ks : List ℕ) (ws : List ℤ) (n : ℕ) → length ws ≡ length ks → n ≤ length ks → weights (take n (zip ks ws)) ≡ take n ws
 weights-used ks ws n even fits =
     ap weights (sym (zip-take n ks ws))
-    ∙ weights-zip (take n ks) (take n ws) (length-take-le n ws (omega arith) ∙ sym (length-take-le n ks fits))
+    ∙ weights-zip (take n ks) (take n ws) (used-long ks ws n even fits ∙ sym (length-take-le n ks fits))
 
 -- the two sums, and the offset with their half and their quarter, are in range
 module _ {l : List ℤ} {h ks : List ℕ} {ws : List ℤ} {t : Totals} (r : Turning l h ks ws t) where

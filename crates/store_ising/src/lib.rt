@@ -33,17 +33,6 @@ fn halve_all(cs: &mut [i64])
     }
 }
 
-// The weight at `i` becomes its quarter, which is returned.
-fn quarter_at(weights: &mut [i64], i: usize) -> i64
-    requires { i < length weights.old }
-    ensures value { result ≡ quarter (get_or weights.old i (pos 0)) }
-    ensures weights_after { weights.new ≡ set weights.old i result }
-{
-    let c = weights[i] / 4;
-    weights[i] = c;
-    c
-}
-
 // A number joins the linear entries of both qubits of a pair.
 fn join_ends(linear: &mut [i64], present: &mut [u8], key: u32, c: i64)
     requires { Ends linear.old present.old key c }
@@ -59,9 +48,10 @@ fn turn_pairs(keys: &[u32], weights: &mut [i64], n: usize, linear: &mut [i64], p
     ensures weights_after { zip keys.now weights.new ≡ over (quarters (take n (zip keys.now weights.old))) n (zip keys.now weights.old) }
     ensures m_after { (m : Model) → with_linear linear.new present.new m ≡ ends (quarters (take n (zip keys.now weights.old))) (with_linear linear.old present.old m) }
 {
-    for i in 0..n {
-        let c = quarter_at(weights, i);
-        join_ends(linear, present, keys[i], c);
+    // By index into `keys`: after a `zip` with `iter_mut`, no fact tells what was written.
+    for (i, weight) in weights[..n].iter_mut().enumerate() {
+        *weight /= 4;
+        join_ends(linear, present, keys[i], *weight);
     }
 }
 

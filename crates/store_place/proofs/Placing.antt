@@ -1,14 +1,15 @@
 -- Placing: one pair by its tests, one turn of each loop, and the tables at the end.
 -- Assumes nothing.
+use Rattle.std.proofs.Common.{◌⊎◌, inl, inr}
+use Rattle.std.proofs.lemmas.List.{length-map, nil_from_length}
 use mathlib.Core.Bool.{Bool, true, false, cond}
 use mathlib.Core.List.{List, [], ◌∷◌, ◌++◌}
 use mathlib.Core.Path.{◌≡◌, refl, sym, ap, ap₂, ◌∙◌}
 use Prim.Native.Nat.{ℕ, zero, suc, ◌+◌, ◌-◌, ◌*◌, ◌≤◌, ◌<◌}
-use native.Mathlib.Numerals.{add-one}
 use native.Mathlib.Omega.{arith}
 use lib.Dec.{eqb}
 use lib.IntN.{ℤ, pos, nat_abs, ◌+ℤ◌}
-use lib.ListN.{length, take, drop, set, get_or, drop_of_length-le, take-append-drop}
+use lib.ListN.{length, take, drop, set, get_or, take-append-drop}
 use lib.Seq.{take-append-add, drop-append-add, drop-drop, length-take-le}
 use borrow.Author.Tests.{eq-eqb, ne_eqb}
 use Rattle.penalty.specs.declared.Penalty.{Penalty}
@@ -116,52 +117,54 @@ logs_at at [] cs m = refl
 logs_at at (p ∷ ps) [] m = refl
 logs_at at (p ∷ ps) (c ∷ cs) m = logs_at at ps cs (log_pair (at p.fst) (at p.snd) (halves c) m)
 
-adds-step : (qs : List ℕ) (cs : List ℤ) (j : ℕ) (m : Model) → j < length qs → j < length cs
-    → adds_at (drop j qs) (drop j cs) m ≡ adds_at (drop (suc j) qs) (drop (suc j) cs) (add_linear (get_or qs j 0) (halves (get_or cs j (pos 0))) m)
+adds-step : (q : ℕ) (qs : List ℕ) (c : ℤ) (cs : List ℤ) (m : Model) → adds_at (q ∷ qs) (c ∷ cs) m ≡ adds_at qs cs (add_linear q (halves c) m)
 unfolding adds_at
-adds-step [] cs j m h k = absurd (omega arith)
-adds-step (q ∷ qs) [] j m h k = absurd (omega arith)
-adds-step (q ∷ qs) (c ∷ cs) zero m h k = refl
-adds-step (q ∷ qs) (c ∷ cs) (suc j) m h k = adds-step qs cs j m (omega arith) (omega arith)
+adds-step q qs c cs m = refl
 
-logs-step : (ps qs : List ℕ) (cs : List ℤ) (j : ℕ) (m : Model) → j < length ps → j < length qs → j < length cs
-    → logged_at (drop j ps) (drop j qs) (drop j cs) m ≡ logged_at (drop (suc j) ps) (drop (suc j) qs) (drop (suc j) cs) (log_pair (get_or ps j 0) (get_or qs j 0) (halves (get_or cs j (pos 0))) m)
+logs-step : (p : ℕ) (ps : List ℕ) (q : ℕ) (qs : List ℕ) (c : ℤ) (cs : List ℤ) (m : Model) → logged_at (p ∷ ps) (q ∷ qs) (c ∷ cs) m ≡ logged_at ps qs cs (log_pair p q (halves c) m)
 unfolding logged_at
-logs-step [] qs cs j m h i k = absurd (omega arith)
-logs-step (p ∷ ps) [] cs j m h i k = absurd (omega arith)
-logs-step (p ∷ ps) (q ∷ qs) [] j m h i k = absurd (omega arith)
-logs-step (p ∷ ps) (q ∷ qs) (c ∷ cs) zero m h i k = refl
-logs-step (p ∷ ps) (q ∷ qs) (c ∷ cs) (suc j) m h i k = logs-step ps qs cs j m (omega arith) (omega arith) (omega arith)
+logs-step p ps q qs c cs m = refl
 
-filled-step : (cs : List ℤ) (j : ℕ) → j < length cs → filled (drop j cs) ≡ filled_by (get_or cs j (pos 0)) + filled (drop (suc j) cs)
-filled-step [] j h = absurd (omega arith)
-filled-step (c ∷ cs) zero h = refl
-filled-step (c ∷ cs) (suc j) h = filled-step cs j (omega arith)
-
-pub record Linears (qs : List ℕ) (cs : List ℤ) (l₀ : List ℤ) (h₀ : List ℕ) (l : List ℤ) (h : List ℕ) (j : ℕ) : Type 0 where
+-- the coefficients cs are left, for the qubits qs
+pub record Linears (at : Slot → ℕ) (ps : List Place) (cs₀ : List ℤ) (l₀ : List ℤ) (h₀ : List ℕ) (l : List ℤ) (h : List ℕ) (qs : List ℕ) (cs : List ℤ) : Type 0 where
   pub linear : length l ≡ length l₀
   pub present : length h ≡ length h₀
-  pub left : (m : Model) → adds_at (drop j qs) (drop j cs) (with_linear l h m) ≡ adds_at qs cs (with_linear l₀ h₀ m)
-  pub size : sizes l ≤ sizes l₀ + 12 * j
+  pub below : (i : ℕ) → i < length qs → get_or qs i 0 < length l₀
+  pub few : (i : ℕ) → nat_abs (get_or cs i (pos 0)) ≤ 6
+  pub left : (m : Model) → adds_at qs cs (with_linear l h m) ≡ add_linears at ps cs₀ (with_linear l₀ h₀ m)
+  pub size : sizes l + 12 * length qs ≤ sizes l₀ + 12 * length ps
 
-module _ {qs : List ℕ} {cs : List ℤ} {l₀ : List ℤ} {h₀ : List ℕ} {l : List ℤ} {h : List ℕ} {j : ℕ} (inv : Linears qs cs l₀ h₀ l h j)
-    (few : (i : ℕ) → nat_abs (get_or cs i (pos 0)) ≤ 6) (at : j < length qs) (of : j < length cs) where
-  pub linear-turn : {l' : List ℤ} {h' : List ℕ} (c : ℤ) → c ≡ halves (get_or cs j (pos 0)) → length h' ≡ length h
-      → l' ≡ gained (get_or qs j 0) c l → h' ≡ marked (get_or qs j 0) c h → Linears qs cs l₀ h₀ l' h' (j + 1)
-  linear-turn {l'} {h'} c e same p r =
+module _ {at : Slot → ℕ} {ps : List Place} {cs₀ : List ℤ} {l₀ : List ℤ} {h₀ : List ℕ} {l : List ℤ} {h : List ℕ} {qs qs' : List ℕ} {cs cs' : List ℤ} {q : ℕ} {c : ℤ}
+    (inv : Linears at ps cs₀ l₀ h₀ l h qs cs) (step : (qs ≡ q ∷ qs') × (cs ≡ c ∷ cs')) where
+  qubits : (i : ℕ) → i < length (q ∷ qs') → get_or (q ∷ qs') i 0 < length l₀
+  qubits = rw step.0 at inv.below
+
+  coefficients : (i : ℕ) → nat_abs (get_or (c ∷ cs') i (pos 0)) ≤ 6
+  coefficients = rw step.1 at inv.few
+
+  pub qubit-below : q < length l₀
+  qubit-below = qubits 0 (omega arith)
+
+  pub coefficient-few : nat_abs c ≤ 6
+  coefficient-few = coefficients 0
+
+  pub linear-turn : {l' : List ℤ} {h' : List ℕ} (z : ℤ) → z ≡ halves c → length h' ≡ length h
+      → l' ≡ gained q z l → h' ≡ marked q z h → Linears at ps cs₀ l₀ h₀ l' h' qs' cs'
+  linear-turn {l'} {h'} z e same p r =
       record {
-        linear = ap length p ∙ gained-length (get_or qs j 0) c l ∙ inv.linear;
+        linear = ap length p ∙ gained-length q z l ∙ inv.linear;
         present = same ∙ inv.present;
+        below = λ i k. qubits (suc i) (omega (arith, k));
+        few = λ i. coefficients (suc i);
         left = λ m.
-            rw add-one (
-            ap₂ (λ (a : List ℤ) (b : List ℕ). adds_at (drop (suc j) qs) (drop (suc j) cs) (with_linear a b m)) p r
-            ∙ ap (adds_at (drop (suc j) qs) (drop (suc j) cs)) (
-            sym (add-linear-is (get_or qs j 0) c l h m)
-            ∙ ap (λ (z : ℤ). add_linear (get_or qs j 0) z (with_linear l h m)) e)
-            ∙ sym (adds-step qs cs j (with_linear l h m) at of)
-            ∙ inv.left m
-            );
-        size = rw p (omega (arith, gained-sizes (get_or qs j 0) c l, abs-halves (get_or cs j (pos 0)), few j, ap nat_abs e));
+            ap₂ (λ (a : List ℤ) (b : List ℕ). adds_at qs' cs' (with_linear a b m)) p r
+            ∙ ap (adds_at qs' cs') (
+            sym (add-linear-is q z l h m)
+            ∙ ap (λ (z : ℤ). add_linear q z (with_linear l h m)) e)
+            ∙ sym (adds-step q qs' c cs' (with_linear l h m))
+            ∙ sym (ap₂ (λ (a : List ℕ) (b : List ℤ). adds_at a b (with_linear l h m)) step.0 step.1)
+            ∙ inv.left m;
+        size = rw p (omega (arith, inv.size, ap length step.0, gained-sizes q z l, abs-halves c, coefficient-few, ap nat_abs e));
       }
 
 -- the qubits at the slots are in the tables
@@ -175,15 +178,30 @@ seconds-below at n h [] j k = absurd (omega arith)
 seconds-below at n h (p ∷ ps) zero k = h p.snd
 seconds-below at n h (p ∷ ps) (suc j) k = seconds-below at n h ps j (omega arith)
 
+-- before the first turn all are left
+pub linear-starts : (at : Slot → ℕ) (ps : List Place) (cs : List ℤ) (l : List ℤ) (h : List ℕ) {qs : List ℕ} → qs ≡ firsts at ps
+    → ((s : Slot) → at s < length l) → ((i : ℕ) → nat_abs (get_or cs i (pos 0)) ≤ 6) → Linears at ps cs l h l h qs cs
+linear-starts at ps cs l h {qs} e wired few =
+    record {
+      linear = refl;
+      present = refl;
+      below = rw e (λ i k. firsts-below at (length l) wired ps i (omega (arith, k, length-map ps (λ (p : Place). at p.fst))));
+      few = few;
+      left = λ m. ap (λ (s : List ℕ). adds_at s cs (with_linear l h m)) e ∙ adds-at at ps cs (with_linear l h m);
+      size = omega (arith, ap length e, length-map ps (λ (p : Place). at p.fst));
+    }
+
 -- at the end nothing is left
-pub linear-done : (at : Slot → ℕ) (ps : List Place) {qs : List ℕ} {cs : List ℤ} {l₀ : List ℤ} {h₀ : List ℕ} {l : List ℤ} {h : List ℕ} (j : ℕ)
-    → qs ≡ firsts at ps → length qs ≤ j → Linears qs cs l₀ h₀ l h j → (m : Model) → with_linear l h m ≡ add_linears at ps cs (with_linear l₀ h₀ m)
+adds-none : (qs : List ℕ) (cs : List ℤ) (m : Model) → (qs ≡ []) ⊎ (cs ≡ []) → adds_at qs cs m ≡ m
 unfolding adds_at
-linear-done at ps {qs} {cs} {l₀} {h₀} {l} {h} j e done inv m =
-    sym (ap (λ (s : List ℕ). adds_at s (drop j cs) (with_linear l h m)) (drop_of_length-le qs done))
-    ∙ inv.left m
-    ∙ ap (λ (s : List ℕ). adds_at s cs (with_linear l₀ h₀ m)) e
-    ∙ adds-at at ps cs (with_linear l₀ h₀ m)
+adds-none [] cs m e = refl
+adds-none (q ∷ qs) [] m e = refl
+adds-none (q ∷ qs) (c ∷ cs) m (inl e) = let n : length (q ∷ qs) ≡ 0 = ap length e in absurd (omega (arith, n))
+adds-none (q ∷ qs) (c ∷ cs) m (inr e) = let n : length (c ∷ cs) ≡ 0 = ap length e in absurd (omega (arith, n))
+
+pub linear-done : {at : Slot → ℕ} {ps : List Place} {cs₀ : List ℤ} {l₀ : List ℤ} {h₀ : List ℕ} {l : List ℤ} {h : List ℕ} {qs : List ℕ} {cs : List ℤ}
+    → Linears at ps cs₀ l₀ h₀ l h qs cs → (qs ≡ []) ⊎ (cs ≡ []) → (m : Model) → with_linear l h m ≡ add_linears at ps cs₀ (with_linear l₀ h₀ m)
+linear-done {l = l} {h} {qs} {cs} inv done m = sym (adds-none qs cs (with_linear l h m) done) ∙ inv.left m
 
 -- ---- the pairs
 
@@ -202,74 +220,132 @@ log_pair-sizes p q c m = go (is_zero c) (eqb p q)
     go false true = sizes-gain m.linear p c
     go false false = omega arith
 
-pub record Logging (ps qs : List ℕ) (cs : List ℤ) (l₀ : List ℤ) (h₀ r₀ ks₀ : List ℕ) (ws₀ : List ℤ) (n₀ : ℕ) (l : List ℤ) (h r ks : List ℕ) (ws : List ℤ) (n j : ℕ) : Type 0 where
+-- the coefficients cs are left, for the qubits ps and qs
+pub record Logging (at : Slot → ℕ) (is : List Place) (cs₀ : List ℤ) (l₀ : List ℤ) (h₀ r₀ ks₀ : List ℕ) (ws₀ : List ℤ) (n₀ : ℕ) (l : List ℤ) (h r ks : List ℕ) (ws : List ℤ) (n : ℕ) (ps qs : List ℕ) (cs : List ℤ) : Type 0 where
   pub linear : length l ≡ length l₀
   pub present : length h ≡ length h₀
   pub rows : length r ≡ length r₀
   pub keys : length ks ≡ length ks₀
   pub weights : length ws ≡ length ws₀
+  pub first : (i : ℕ) → i < length ps → get_or ps i 0 < length l₀
+  pub second : (i : ℕ) → i < length qs → get_or qs i 0 < length l₀
+  pub few : (i : ℕ) → nat_abs (get_or cs i (pos 0)) ≤ 6
   pub left : (o : ℤ) (f : List ℕ)
-      → logged_at (drop j ps) (drop j qs) (drop j cs) (model_of (tables o l h r f ks ws n)) ≡ logged_at ps qs cs (model_of (tables o l₀ h₀ r₀ f ks₀ ws₀ n₀))
+      → logged_at ps qs cs (model_of (tables o l h r f ks ws n)) ≡ log_pairs at is cs₀ (model_of (tables o l₀ h₀ r₀ f ks₀ ws₀ n₀))
   pub grows : n₀ ≤ n
-  pub room : n + filled (drop j cs) ≤ n₀ + filled cs
+  pub room : n + filled cs ≤ n₀ + filled cs₀
   pub rest : drop n (zip ks ws) ≡ drop n (zip ks₀ ws₀)
-  pub size : sizes l ≤ sizes l₀ + 12 * j
+  pub size : sizes l + 12 * length ps ≤ sizes l₀ + 12 * length is
 
-module _ {ps qs : List ℕ} {cs : List ℤ} {l₀ : List ℤ} {h₀ r₀ ks₀ : List ℕ} {ws₀ : List ℤ} {n₀ : ℕ} {l : List ℤ} {h r ks : List ℕ} {ws : List ℤ} {n j : ℕ}
-    (inv : Logging ps qs cs l₀ h₀ r₀ ks₀ ws₀ n₀ l h r ks ws n j)
-    (few : (i : ℕ) → nat_abs (get_or cs i (pos 0)) ≤ 6) (at : j < length ps) (at' : j < length qs) (of : j < length cs) where
-  pub pairs-room : (k : ℕ) → n₀ + filled cs ≤ k → n + filled_by (halves (get_or cs j (pos 0))) ≤ k
-  pairs-room k fits = omega (arith, inv.room, filled-step cs j of, filled-halves (get_or cs j (pos 0)))
+module _ {at : Slot → ℕ} {is : List Place} {cs₀ : List ℤ} {l₀ : List ℤ} {h₀ r₀ ks₀ : List ℕ} {ws₀ : List ℤ} {n₀ : ℕ} {l : List ℤ} {h r ks : List ℕ} {ws : List ℤ} {n : ℕ}
+    {ps ps' qs qs' : List ℕ} {cs cs' : List ℤ} {p q : ℕ} {c : ℤ}
+    (inv : Logging at is cs₀ l₀ h₀ r₀ ks₀ ws₀ n₀ l h r ks ws n ps qs cs) (step : ((ps ≡ p ∷ ps') × (qs ≡ q ∷ qs')) × (cs ≡ c ∷ cs')) where
+  firsts-left : (i : ℕ) → i < length (p ∷ ps') → get_or (p ∷ ps') i 0 < length l₀
+  firsts-left = rw step.0.0 at inv.first
 
-  pub pairs-turn : {l' : List ℤ} {h' r' ks' : List ℕ} {ws' : List ℤ} {n' : ℕ} (c : ℤ) → c ≡ halves (get_or cs j (pos 0))
+  seconds-left : (i : ℕ) → i < length (q ∷ qs') → get_or (q ∷ qs') i 0 < length l₀
+  seconds-left = rw step.0.1 at inv.second
+
+  few-left : (i : ℕ) → nat_abs (get_or (c ∷ cs') i (pos 0)) ≤ 6
+  few-left = rw step.1 at inv.few
+
+  pub first-below : p < length l₀
+  first-below = firsts-left 0 (omega arith)
+
+  pub second-below : q < length l₀
+  second-below = seconds-left 0 (omega arith)
+
+  pub pair-few : nat_abs c ≤ 6
+  pair-few = few-left 0
+
+  pub pairs-room : (k : ℕ) → n₀ + filled cs₀ ≤ k → n + filled_by (halves c) ≤ k
+  pairs-room k fits = omega (arith, inv.room, ap filled step.1, filled-halves c)
+
+  pub pairs-turn : {l' : List ℤ} {h' r' ks' : List ℕ} {ws' : List ℤ} {n' : ℕ} (z : ℤ) → z ≡ halves c
       → length l' ≡ length l → length h' ≡ length h → length r' ≡ length r → length ks' ≡ length ks → length ws' ≡ length ws
-      → ((o : ℤ) (f : List ℕ) → model_of (tables o l' h' r' f ks' ws' n') ≡ log_pair (get_or ps j 0) (get_or qs j 0) c (model_of (tables o l h r f ks ws n)))
-      → Longer n n' (filled_by c) (zip ks ws) (zip ks' ws')
-      → Logging ps qs cs l₀ h₀ r₀ ks₀ ws₀ n₀ l' h' r' ks' ws' n' (j + 1)
-  pairs-turn {l'} {h'} {r'} {ks'} {ws'} {n'} c e ll lh lr lk lw step long =
-      let same : filled_by c ≡ filled_by (get_or cs j (pos 0)) = ap filled_by e ∙ filled-halves (get_or cs j (pos 0)) in
-      let more : l' ≡ (log_pair (get_or ps j 0) (get_or qs j 0) c (model_of (tables (pos 0) l h r [] ks ws n))).linear = ap (λ (m : Model). m.linear) (step (pos 0) []) in
+      → ((o : ℤ) (f : List ℕ) → model_of (tables o l' h' r' f ks' ws' n') ≡ log_pair p q z (model_of (tables o l h r f ks ws n)))
+      → Longer n n' (filled_by z) (zip ks ws) (zip ks' ws')
+      → Logging at is cs₀ l₀ h₀ r₀ ks₀ ws₀ n₀ l' h' r' ks' ws' n' ps' qs' cs'
+  pairs-turn {l'} {h'} {r'} {ks'} {ws'} {n'} z e ll lh lr lk lw turn long =
+      let same : filled_by z ≡ filled_by c = ap filled_by e ∙ filled-halves c in
+      let more : l' ≡ (log_pair p q z (model_of (tables (pos 0) l h r [] ks ws n))).linear = ap (λ (m : Model). m.linear) (turn (pos 0) []) in
       record {
         linear = ll ∙ inv.linear;
         present = lh ∙ inv.present;
         rows = lr ∙ inv.rows;
         keys = lk ∙ inv.keys;
         weights = lw ∙ inv.weights;
+        first = λ i k. firsts-left (suc i) (omega (arith, k));
+        second = λ i k. seconds-left (suc i) (omega (arith, k));
+        few = λ i. few-left (suc i);
         left = λ o f.
-            rw add-one (
-            ap (logged_at (drop (suc j) ps) (drop (suc j) qs) (drop (suc j) cs)) (
-            step o f ∙ ap (λ (z : ℤ). log_pair (get_or ps j 0) (get_or qs j 0) z (model_of (tables o l h r f ks ws n))) e)
-            ∙ sym (logs-step ps qs cs j (model_of (tables o l h r f ks ws n)) at at' of)
-            ∙ inv.left o f
-            );
+            ap (logged_at ps' qs' cs') (
+            turn o f ∙ ap (λ (z : ℤ). log_pair p q z (model_of (tables o l h r f ks ws n))) e)
+            ∙ sym (logs-step p ps' q qs' c cs' (model_of (tables o l h r f ks ws n)))
+            ∙ sym (ap (λ (s : List ℕ). logged_at s (q ∷ qs') (c ∷ cs') (model_of (tables o l h r f ks ws n))) step.0.0)
+            ∙ sym (ap₂ (λ (s : List ℕ) (t : List ℤ). logged_at ps s t (model_of (tables o l h r f ks ws n))) step.0.1 step.1)
+            ∙ inv.left o f;
         grows = omega (arith, inv.grows, long.grows);
-        room = rw add-one (omega (arith, inv.room, long.most, filled-step cs j of, same));
+        room = omega (arith, inv.room, long.most, ap filled step.1, same);
         rest = long.rest ∙ drop-later n n' (zip ks ws) (zip ks₀ ws₀) long.grows inv.rest;
         size =
             omega (
               arith,
               inv.size,
+              ap length step.0.0,
               ap sizes more,
-              log_pair-sizes (get_or ps j 0) (get_or qs j 0) c (model_of (tables (pos 0) l h r [] ks ws n)),
-              abs-halves (get_or cs j (pos 0)),
-              few j,
+              log_pair-sizes p q z (model_of (tables (pos 0) l h r [] ks ws n)),
+              abs-halves c,
+              pair-few,
               ap nat_abs e,
             );
       }
 
-pub pairs-done : {ps qs : List ℕ} {cs : List ℤ} {l₀ : List ℤ} {h₀ r₀ ks₀ : List ℕ} {ws₀ : List ℤ} {n₀ : ℕ} {l : List ℤ} {h r ks : List ℕ} {ws : List ℤ} {n j : ℕ}
-    → Logging ps qs cs l₀ h₀ r₀ ks₀ ws₀ n₀ l h r ks ws n j → (at : Slot → ℕ) (is : List Place) → ps ≡ firsts at is → qs ≡ seconds at is → length ps ≤ j
-    → ((o : ℤ) (f : List ℕ) → model_of (tables o l h r f ks ws n) ≡ log_pairs at is cs (model_of (tables o l₀ h₀ r₀ f ks₀ ws₀ n₀)))
-    × Longer n₀ n (filled cs) (zip ks₀ ws₀) (zip ks ws)
+-- before the first turn all are left
+pub pairs-starts : (at : Slot → ℕ) (is : List Place) (cs : List ℤ) (l : List ℤ) (h r ks : List ℕ) (ws : List ℤ) (n : ℕ) {ps qs : List ℕ} → ps ≡ firsts at is → qs ≡ seconds at is
+    → ((s : Slot) → at s < length l) → ((i : ℕ) → nat_abs (get_or cs i (pos 0)) ≤ 6) → Logging at is cs l h r ks ws n l h r ks ws n ps qs cs
+pairs-starts at is cs l h r ks ws n {ps} {qs} e e' wired few =
+    record {
+      linear = refl;
+      present = refl;
+      rows = refl;
+      keys = refl;
+      weights = refl;
+      first = rw e (λ i k. firsts-below at (length l) wired is i (omega (arith, k, length-map is (λ (p : Place). at p.fst))));
+      second = rw e' (λ i k. seconds-below at (length l) wired is i (omega (arith, k, length-map is (λ (p : Place). at p.snd))));
+      few = few;
+      left = λ o f.
+          ap₂ (λ (s t : List ℕ). logged_at s t cs (model_of (tables o l h r f ks ws n))) e e' ∙ logs_at at is cs (model_of (tables o l h r f ks ws n));
+      grows = omega arith;
+      room = omega arith;
+      rest = refl;
+      size = omega (arith, ap length e, length-map is (λ (p : Place). at p.fst));
+    }
+
+-- at the end nothing is left
+logs-none : (ps qs : List ℕ) (cs : List ℤ) (m : Model) → ((ps ≡ []) ⊎ (qs ≡ [])) ⊎ (cs ≡ []) → logged_at ps qs cs m ≡ m
 unfolding logged_at
-pairs-done {ps} {qs} {cs} {l₀} {h₀} {r₀} {ks₀} {ws₀} {n₀} {l} {h} {r} {ks} {ws} {n} {j} inv at is e e' done = (
-  λ o f.
-      sym (ap (λ (s : List ℕ). logged_at s (drop j qs) (drop j cs) (model_of (tables o l h r f ks ws n))) (drop_of_length-le ps done))
-      ∙ inv.left o f
-      ∙ ap₂ (λ (s t : List ℕ). logged_at s t cs (model_of (tables o l₀ h₀ r₀ f ks₀ ws₀ n₀))) e e'
-      ∙ logs_at at is cs (model_of (tables o l₀ h₀ r₀ f ks₀ ws₀ n₀)),
-  record { grows = inv.grows; most = omega (arith, inv.room); rest = inv.rest },
-)
+logs-none [] qs cs m e = refl
+logs-none (p ∷ ps) [] cs m e = refl
+logs-none (p ∷ ps) (q ∷ qs) [] m e = refl
+logs-none (p ∷ ps) (q ∷ qs) (c ∷ cs) m (inl (inl e)) = let n : length (p ∷ ps) ≡ 0 = ap length e in absurd (omega (arith, n))
+logs-none (p ∷ ps) (q ∷ qs) (c ∷ cs) m (inl (inr e)) = let n : length (q ∷ qs) ≡ 0 = ap length e in absurd (omega (arith, n))
+logs-none (p ∷ ps) (q ∷ qs) (c ∷ cs) m (inr e) = let n : length (c ∷ cs) ≡ 0 = ap length e in absurd (omega (arith, n))
+
+-- an iterator over the three tables ends where one of them does
+pub one-ended : {A X Y Z : Type 0} {P : X → Type 0} {Q : Y → Type 0} {R : Z → Type 0} {ps qs : List ℕ} {cs : List ℤ}
+    → (A × (((x : X) × ((length ps ≡ 0) × P x)) ⊎ ((y : Y) × ((length qs ≡ 0) × Q y)))) ⊎ ((z : Z) × ((length cs ≡ 0) × R z))
+    → ((ps ≡ []) ⊎ (qs ≡ [])) ⊎ (cs ≡ [])
+one-ended (inl (a, inl s)) = inl (inl (nil_from_length _ s.1.0))
+one-ended (inl (a, inr s)) = inl (inr (nil_from_length _ s.1.0))
+one-ended (inr s) = inr (nil_from_length _ s.1.0)
+
+pub pairs-done : {at : Slot → ℕ} {is : List Place} {cs₀ : List ℤ} {l₀ : List ℤ} {h₀ r₀ ks₀ : List ℕ} {ws₀ : List ℤ} {n₀ : ℕ} {l : List ℤ} {h r ks : List ℕ} {ws : List ℤ} {n : ℕ}
+    {ps qs : List ℕ} {cs : List ℤ}
+    → Logging at is cs₀ l₀ h₀ r₀ ks₀ ws₀ n₀ l h r ks ws n ps qs cs → ((ps ≡ []) ⊎ (qs ≡ [])) ⊎ (cs ≡ [])
+    → (o : ℤ) (f : List ℕ) → model_of (tables o l h r f ks ws n) ≡ log_pairs at is cs₀ (model_of (tables o l₀ h₀ r₀ f ks₀ ws₀ n₀))
+pairs-done {l = l} {h} {r} {ks} {ws} {n} {ps} {qs} {cs} inv done o f =
+    sym (logs-none ps qs cs (model_of (tables o l h r f ks ws n)) done) ∙ inv.left o f
 
 -- ---- the tables at the end: a model that the tables hold, with a longer log
 pub held : (t u : Tables) (m : Model) (k : ℕ) → t.count ≤ length t.entries → model_of t ≡ m → Longer u.count t.count k u.entries t.entries → t ≡ hold m u

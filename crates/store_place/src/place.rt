@@ -105,13 +105,9 @@ fn place_linear(linear: &mut [i64], present: &mut [u8], w: Wires, cs: [i64; 6])
     ensures m_after { (m : Model) → with_linear linear.new present.new m ≡ add_linears (slots_of w) singles cs (with_linear linear.old present.old m) }
     ensures linear_bound { sizes linear.new ≤ sizes linear.old + 72 }
 {
-    let qs = ones_of(w);
-    for j in 0..6 {
-        let q = qs[j];
-        let c = cs[j];
-        let i = q as usize;
-        let h = c + c;
-        add_linear(linear, present, i, h);
+    let qubits = ones_of(w);
+    for (qubit, coefficient) in qubits.iter().zip(&cs) {
+        add_linear(linear, present, *qubit as usize, coefficient + coefficient);
     }
 }
 
@@ -130,17 +126,14 @@ fn place_pairs(
     ensures longer { Longer n result (filled cs) (entries_of pairs.old) (entries_of pairs.new) }
     ensures same { SameTables pairs.old pairs.new }
 {
-    let ps = firsts_of(w);
-    let qs = seconds_of(w);
-    let mut m = n;
-    for j in 0..15 {
-        let p = ps[j];
-        let q = qs[j];
-        let c = cs[j];
-        let h = c + c;
-        m = add_pair(linear, present, rows, pairs, m, p, q, h);
+    let firsts = firsts_of(w);
+    let seconds = seconds_of(w);
+    let mut end = n;
+    for ((first, second), coefficient) in firsts.iter().zip(&seconds).zip(&cs) {
+        let halves = coefficient + coefficient;
+        end = add_pair(linear, present, rows, pairs, end, *first, *second, halves);
     }
-    m
+    end
 }
 
 // A penalty is placed at its qubits. `fixed` is not looked at, and stays.
@@ -157,8 +150,8 @@ pub fn place(
     requires { Placing linear.old present.old rows.old keys.old weights.old t (slots_of w) p }
     ensures { (f : List ℕ) → tables result.offset linear.new present.new rows.new f keys.new weights.new result.count ≡ hold (logged (slots_of w) p (model_of (tables t.offset linear.old present.old rows.old f keys.old weights.old t.count))) (tables t.offset linear.old present.old rows.old f keys.old weights.old t.count) }
 {
-    let h = p.offset + p.offset;
-    let offset = t.offset + h;
+    let halves = p.offset + p.offset;
+    let offset = t.offset + halves;
     place_linear(linear, present, w, p.linear);
     let mut pairs = Pairs { keys, weights };
     let count = place_pairs(linear, present, rows, &mut pairs, t.count, w, p.pairs);

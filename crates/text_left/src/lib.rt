@@ -1,12 +1,10 @@
 // The text of what a build left, into a lent buffer; or the build's refusal, or 17.
 #![tactic(auto)]
 
-ghost use mathlib.Core.List.{[], zip};
-ghost use Rattle.std.specs.Prelude.{◌≡◌, length, take};
-ghost use Rattle.circuit.specs.Meaning.{circuit_of};
+ghost use mathlib.Core.List.{[]};
+ghost use Rattle.std.specs.Prelude.{◌≡◌, length};
 ghost use Rattle.qubot_left.specs.Built.{lent};
-ghost use Rattle.text.specs.Text.{layout, sheet_by};
-ghost use Rattle.text.specs.Ready.{Printable};
+ghost use Rattle.text_print.specs.Lent.{PrintableIn, text_of};
 ghost use Rattle.text_left.specs.Left.{Left, LeftBy};
 ghost use Rattle.text_left.specs.Dumped.{text_in, written_to, printed_by};
 
@@ -14,12 +12,13 @@ use circuit::Refusal;
 use circuit_lists::input_starts;
 use circuit_sizes::counts_of;
 use qubot_left::Finished;
-use text_print::{Sheet, print_model};
+use text_print::finished::Sheet;
+use text_print::print_model;
 
 // How long the text is: printed into nothing.
 fn text_length(s: Sheet) -> usize
-    requires { Printable s.circuit.now s.starts.now s.qubits.now s.fixed.now s.has.now s.linear.now s.keys.now s.weights.now s.counts s.names s.pairs }
-    ensures { result ≡ length (layout (sheet_by (circuit_of s.entry.circuit.now) s.entry.qubits.now s.entry.variables s.entry.offset (take s.entry.names s.entry.fixed.now) (take s.entry.names s.entry.has.now) (take s.entry.names s.entry.linear.now) (take s.entry.pairs (zip s.entry.keys.now s.entry.weights.now)))) }
+    requires { PrintableIn s }
+    ensures { result ≡ length (text_of s.entry) }
 {
     let mut none = [0u8; 1];
     print_model(s, &mut none[..0])

@@ -1,15 +1,15 @@
 // The parts of the text, a loop each.
 ghost use mathlib.Core.List.{map, zip};
 ghost use Rattle.std.specs.Prelude.{◌≡◌, ◌≤◌, ◌<◌, length};
-ghost use Rattle.circuit.specs.Meaning.{circuit_of};
 ghost use Rattle.circuit.specs.Check.{counts_of};
 ghost use Rattle.circuit.specs.Starts.{starts_of};
 ghost use Rattle.circuit.specs.Parts.{input_of_circuit};
+ghost use Rattle.text_print.specs.Lent.{circuit_in, inputs_in, bads_in, ReadableIn};
 ghost use Rattle.text.specs.Paste.{Printed, Room};
-ghost use Rattle.text.specs.Text.{lines, commas, word, shown_at, input_text, input_line, bad_text, bad_line, linear_text, pair_text, entries};
-ghost use Rattle.text.specs.Ready.{Readable, BadsNamed};
+ghost use Rattle.text.specs.Text.{lines, commas, word, shown_at, input_text, input_line, bad_text, linear_text, pair_text, entries};
+ghost use Rattle.text.specs.Ready.{BadsNamed};
 
-use crate::Sheet;
+use crate::finished::Sheet;
 use circuit_lists::parts::{bad_gate, bad_nid, input_gate, input_nid};
 use text::write::{put, put_lead};
 use text_entries::{put_bad, put_entry, put_pair, put_word};
@@ -42,8 +42,8 @@ pub fn put_pairs(buf: &mut [u8], at: usize, keys: &[u32], weights: &[i64]) -> us
 
 // The bad states, in their order.
 pub fn put_bads(buf: &mut [u8], at: usize, s: Sheet) -> usize
-    requires { Readable s.circuit.now s.qubits.now s.fixed.now × (s.counts ≡ counts_of s.circuit.now) × BadsNamed s.qubits.now (circuit_of s.circuit.now).bads × Room at (lines bad_text (map (bad_line s.qubits.now s.fixed.now) (circuit_of s.circuit.now).bads)) }
-    ensures { Printed (lines bad_text (map (bad_line s.entry.qubits.now s.entry.fixed.now) (circuit_of s.entry.circuit.now).bads)) buf.old at buf.new result }
+    requires { ReadableIn s × (s.counts ≡ counts_of s.circuit.now) × BadsNamed s.qubits.now (circuit_in s).bads × Room at (lines bad_text (bads_in s)) }
+    ensures { Printed (lines bad_text (bads_in s.entry)) buf.old at buf.new result }
 {
     let mut next = at;
     for k in 0..s.counts.bad_states {
@@ -57,8 +57,8 @@ pub fn put_bads(buf: &mut [u8], at: usize, s: Sheet) -> usize
 
 // The words of the m bits of input k: their qubits, or their fixed values.
 fn put_words(buf: &mut [u8], at: usize, s: Sheet, k: usize, m: usize, values: bool) -> usize
-    requires { Readable s.circuit.now s.qubits.now s.fixed.now × (s.starts.now ≡ starts_of s.circuit.now 23) × (k < length (circuit_of s.circuit.now).inputs) × (m ≡ length (input_of_circuit (circuit_of s.circuit.now) k).bits) × Room at (commas (word values) (map (shown_at s.qubits.now s.fixed.now) (input_of_circuit (circuit_of s.circuit.now) k).bits)) }
-    ensures { Printed (commas (word values) (map (shown_at s.entry.qubits.now s.entry.fixed.now) (input_of_circuit (circuit_of s.entry.circuit.now) k).bits)) buf.old at buf.new result }
+    requires { ReadableIn s × (s.starts.now ≡ starts_of s.circuit.now 23) × (k < length (circuit_in s).inputs) × (m ≡ length (input_of_circuit (circuit_in s) k).bits) × Room at (commas (word values) (map (shown_at s.qubits.now s.fixed.now) (input_of_circuit (circuit_in s) k).bits)) }
+    ensures { Printed (commas (word values) (map (shown_at s.entry.qubits.now s.entry.fixed.now) (input_of_circuit (circuit_in s.entry) k).bits)) buf.old at buf.new result }
 {
     let mut next = at;
     for j in 0..m {
@@ -71,8 +71,8 @@ fn put_words(buf: &mut [u8], at: usize, s: Sheet, k: usize, m: usize, values: bo
 
 // The line of input k, which has m bits.
 fn put_input(buf: &mut [u8], at: usize, s: Sheet, k: usize, m: usize) -> usize
-    requires { Readable s.circuit.now s.qubits.now s.fixed.now × (s.starts.now ≡ starts_of s.circuit.now 23) × (k < length (circuit_of s.circuit.now).inputs) × (m ≡ length (input_of_circuit (circuit_of s.circuit.now) k).bits) × Room at (input_text (input_line s.qubits.now s.fixed.now (input_of_circuit (circuit_of s.circuit.now) k))) }
-    ensures { Printed (input_text (input_line s.entry.qubits.now s.entry.fixed.now (input_of_circuit (circuit_of s.entry.circuit.now) k))) buf.old at buf.new result }
+    requires { ReadableIn s × (s.starts.now ≡ starts_of s.circuit.now 23) × (k < length (circuit_in s).inputs) × (m ≡ length (input_of_circuit (circuit_in s) k).bits) × Room at (input_text (input_line s.qubits.now s.fixed.now (input_of_circuit (circuit_in s) k))) }
+    ensures { Printed (input_text (input_line s.entry.qubits.now s.entry.fixed.now (input_of_circuit (circuit_in s.entry) k))) buf.old at buf.new result }
 {
     let nid = input_nid(s.circuit, s.starts, k);
     let words = put_lead(buf, at, nid);
@@ -84,8 +84,8 @@ fn put_input(buf: &mut [u8], at: usize, s: Sheet, k: usize, m: usize) -> usize
 
 // The inputs, in their order.
 pub fn put_inputs(buf: &mut [u8], at: usize, s: Sheet) -> usize
-    requires { Readable s.circuit.now s.qubits.now s.fixed.now × (s.starts.now ≡ starts_of s.circuit.now 23) × (s.counts.inputs ≡ length (circuit_of s.circuit.now).inputs) × Room at (lines input_text (map (input_line s.qubits.now s.fixed.now) (circuit_of s.circuit.now).inputs)) }
-    ensures { Printed (lines input_text (map (input_line s.entry.qubits.now s.entry.fixed.now) (circuit_of s.entry.circuit.now).inputs)) buf.old at buf.new result }
+    requires { ReadableIn s × (s.starts.now ≡ starts_of s.circuit.now 23) × (s.counts.inputs ≡ length (circuit_in s).inputs) × Room at (lines input_text (inputs_in s)) }
+    ensures { Printed (lines input_text (inputs_in s.entry)) buf.old at buf.new result }
 {
     let mut next = at;
     for k in 0..s.counts.inputs {
