@@ -1,18 +1,16 @@
 // A run: values, energy, the true bad states, the verdict; or the refusal.
 #![tactic(auto)]
 
-ghost use Rattle.std.specs.Prelude.{◌≡◌, List, ◌++◌, ℕ, ◌+◌, ◌*◌, ◌≤◌, length, take};
+ghost use Rattle.std.specs.Prelude.{◌≡◌, List, ℕ, ◌+◌, ◌*◌, ◌≤◌, length};
 ghost use Rattle.circuit.specs.Meaning.{circuit_of};
 ghost use Rattle.run_values.specs.Need.{went, and_then, each, need_of};
-ghost use Rattle.run_meaning.specs.Ran.{done, refusal, answer, setting_of, marked, with_higher, bad_qubits, within, ran};
+ghost use Rattle.run_meaning.specs.Ran.{done, refusal, answer, setting_of, within, ran};
 ghost use Rattle.run_give.specs.Asked.{InputsAsked};
 ghost use Rattle.run_tables.specs.Listed.{listed_of, true_from};
-ghost use Rattle.run_tables.specs.Lent.{built_by};
-ghost use Rattle.run_values.specs.Asking.{state_in, net_in, NeedsIn};
-ghost use Rattle.run_meaning.specs.Layout.{RunReady, Flags, Stacked};
+ghost use Rattle.run_tables.specs.Lent.{built_by, model_in, needed_in, ModelFits, ReadyIn};
+ghost use Rattle.run_values.specs.Asking.{net_in, NeedsIn};
 ghost use Rattle.run_meaning.specs.Give.{give_all};
 ghost use Rattle.energy.specs.Model.{energy_in};
-ghost use Rattle.store.specs.Tables.{tables, model_of};
 ghost use Rattle.store.specs.Evaluating.{Evaluating};
 
 use circuit::Refusal;
@@ -73,8 +71,8 @@ fn find_values(
     values: &mut [u8],
     inputs: &[i64],
 ) -> Result<(), Stop>
-    requires { InputsAsked on.now.circuit.now input_starts.now on.now.qubits.now (length values.old) inputs.now × NeedsIn on.now values.old × (total ≡ length (circuit_of on.now.circuit.now).bads) × Flags on.now.names model.now.flags.now × Flags on.now.names model.now.rows.now × Stacked on.now.names model.now.rows.now 0 (take model.now.totals.count model.now.keys.now) × (model.now.totals.count ≤ length model.now.keys.now) }
-    ensures { went result values.new ≡ and_then (give_all on.now.qubits.now 0 (circuit_of on.now.circuit.now).inputs inputs.now values.old) (each (need_of (net_in on.now)) (marked 0 model.now.flags.now ++ (with_higher (take model.now.totals.count model.now.keys.now) (marked 0 model.now.rows.now) ++ bad_qubits (circuit_of on.now.circuit.now) (state_in on.now)))) }
+    requires { InputsAsked on.now.circuit.now input_starts.now on.now.qubits.now (length values.old) inputs.now × NeedsIn on.now values.old × (total ≡ length (circuit_of on.now.circuit.now).bads) × ModelFits on.now model.now }
+    ensures { went result values.new ≡ and_then (give_all on.now.qubits.now 0 (circuit_of on.now.circuit.now).inputs inputs.now values.old) (each (need_of (net_in on.now)) (needed_in on.now model.now)) }
 {
     give_all(on, input_starts, values, inputs)?;
     // The contract lets the tables be longer than the pairs in use, though `run_left` has cut them.
@@ -85,7 +83,7 @@ fn find_values(
 // The answer at the values found: the energy in its form, the verdict, and the true bad states.
 fn answer_at(on: &NumberedCircuit, model: &FinishedModel, total: usize, values: &[u8]) -> Run
     requires { Evaluating model.now.linear.now model.now.keys.now model.now.weights.now model.now.totals values.now × (16 * (on.now.bads + total) ≤ length on.now.circuit.now) × (total ≤ 64) }
-    ensures { (h rs f : List ℕ) → result ≡ answer model.now.form (energy_in model.now.form (setting_of values.now) (model_of (tables model.now.totals.offset model.now.linear.now h rs f model.now.keys.now model.now.weights.now model.now.totals.count))) (true_from on.now.circuit.now on.now.qubits.now values.now on.now.bads total) }
+    ensures { (h rs f : List ℕ) → result ≡ answer model.now.form (energy_in model.now.form (setting_of values.now) (model_in model.now h rs f)) (true_from on.now.circuit.now on.now.qubits.now values.now on.now.bads total) }
 {
     let e = energy_at(
         model.linear,
@@ -125,7 +123,7 @@ fn run_within(
     values: &mut [u8],
     inputs: &[i64],
 ) -> Run
-    requires { RunReady on.now.circuit.now on.now.starts.now input_starts.now on.now.bads total count (state_in on.now) model.now.linear.now model.now.flags.now model.now.rows.now on.now.fixed.now model.now.keys.now model.now.weights.now model.now.totals × (on.now.names ≡ length values.old) }
+    requires { ReadyIn on.now model.now input_starts.now total count × (on.now.names ≡ length values.old) }
     ensures { done result values.new ≡ within (built_by on.now model.now) inputs.now }
 {
     fill_u8(values, 2);
@@ -151,7 +149,7 @@ pub fn run_on(
     values: &mut [u8],
     inputs: &[i64],
 ) -> Run
-    requires { RunReady on.now.circuit.now on.now.starts.now input_starts.now on.now.bads total count (state_in on.now) model.now.linear.now model.now.flags.now model.now.rows.now on.now.fixed.now model.now.keys.now model.now.weights.now model.now.totals }
+    requires { ReadyIn on.now model.now input_starts.now total count }
     ensures { done result values.new ≡ ran (built_by on.now model.now) inputs.now values.old }
 {
     if values.len() < on.names {

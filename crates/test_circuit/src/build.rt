@@ -1,5 +1,5 @@
 // Records made from numbers.
-ghost use Rattle.std.specs.Prelude.{◌<◌};
+ghost use Rattle.std.specs.Prelude.{◌≡◌, ◌+◌, ◌%◌, ◌<◌};
 
 // A stretch of records of one kind.
 #[derive(Clone, Copy)]
@@ -43,7 +43,7 @@ fn put(bytes: &mut [u8], n: usize, g: Group, a: usize, b: usize) {
 
 // A number of records.
 fn small(n: usize) -> usize
-    ensures { result < 8192 }
+    ensures { result ≡ n % 8192 }
 {
     n % 8192
 }
@@ -64,7 +64,9 @@ fn stepped(b: usize, rise: usize) -> usize {
 }
 
 // Makes the records of a group from record n on. Returns the place after them.
-pub fn fill(bytes: &mut [u8], n: usize, g: Group) -> usize {
+pub fn fill(bytes: &mut [u8], n: usize, g: Group) -> usize
+    ensures { result ≡ n % 8192 + g.count % 8192 }
+{
     let first = small(n);
     let count = small(g.count);
     let mut b = g.b;

@@ -10,17 +10,27 @@ use Rattle.run_meaning.proofs.needs.need_all.Goals as goal
 
 pub returns-in_err-need_linear : goal.returns-in_err-need_linear
 returns-in_err-need_linear c =
+    let a = c.args in
+    let later = with_higher a.keys.now (marked 0 a.rows.now) ++ bad_qubits (circuit_of a.on.now.circuit.now) (state_in a.on.now) in
     returned c.from_residual.result _ c.from_residual.ensures.1
-    (then-stop (need_of (net_in c.args.on.now)) (marked 0 c.args.flags.now) (with_higher c.args.keys.now (marked 0 c.args.rows.now) ++ bad_qubits (circuit_of c.args.on.now.circuit.now) (state_in c.args.on.now)) c.args.values.now c.in_err-need_linear.ensures)
+    (then-stop (need_of (net_in a.on.now)) (marked 0 a.flags.now) later a.values.now c.in_err-need_linear.ensures)
 
 pub returns-in_err-need_rows : goal.returns-in_err-need_rows
 returns-in_err-need_rows c =
+    let a = c.args in
+    let one = need_of (net_in a.on.now) in
+    let rows = with_higher a.keys.now (marked 0 a.rows.now) in
+    let bads = bad_qubits (circuit_of a.on.now.circuit.now) (state_in a.on.now) in
     returned c.from_residual-in_err-need_rows.result _ c.from_residual-in_err-need_rows.ensures.1
-    (then-stop (need_of (net_in c.args.on.now)) (with_higher c.args.keys.now (marked 0 c.args.rows.now)) (bad_qubits (circuit_of c.args.on.now.circuit.now) (state_in c.args.on.now)) c.need_linear.new.values c.in_err-need_rows.ensures
-    ∙ then-on (need_of (net_in c.args.on.now)) (marked 0 c.args.flags.now) (with_higher c.args.keys.now (marked 0 c.args.rows.now) ++ bad_qubits (circuit_of c.args.on.now.circuit.now) (state_in c.args.on.now)) c.args.values.now c.in_ok-need_linear.ensures)
+    (then-stop one rows bads c.need_linear.new.values c.in_err-need_rows.ensures
+    ∙ then-on one (marked 0 a.flags.now) (rows ++ bads) a.values.now c.in_ok-need_linear.ensures)
 
 pub returns : goal.returns
 returns c =
+    let a = c.args in
+    let one = need_of (net_in a.on.now) in
+    let rows = with_higher a.keys.now (marked 0 a.rows.now) in
+    let bads = bad_qubits (circuit_of a.on.now.circuit.now) (state_in a.on.now) in
     c.need_bads.ensures
-    ∙ then-on (need_of (net_in c.args.on.now)) (with_higher c.args.keys.now (marked 0 c.args.rows.now)) (bad_qubits (circuit_of c.args.on.now.circuit.now) (state_in c.args.on.now)) c.need_linear.new.values c.in_ok-need_rows.ensures
-    ∙ then-on (need_of (net_in c.args.on.now)) (marked 0 c.args.flags.now) (with_higher c.args.keys.now (marked 0 c.args.rows.now) ++ bad_qubits (circuit_of c.args.on.now.circuit.now) (state_in c.args.on.now)) c.args.values.now c.in_ok-need_linear.ensures
+    ∙ then-on one rows bads c.need_linear.new.values c.in_ok-need_rows.ensures
+    ∙ then-on one (marked 0 a.flags.now) (rows ++ bads) a.values.now c.in_ok-need_linear.ensures
