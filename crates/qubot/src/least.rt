@@ -1,8 +1,10 @@
 // The least of six lengths.
 ghost use Rattle.std.specs.Prelude.{◌≡◌, min};
 
+use units::lesser;
+
 pub fn least_of(a: usize, b: usize, c: usize, d: usize, e: usize, f: usize) -> usize
     ensures { result ≡ min (min (min a b) (min c d)) (min e f) }
 {
-    a.min(b).min(c.min(d)).min(e.min(f))
+    lesser(lesser(lesser(a, b), lesser(c, d)), lesser(e, f))
 }

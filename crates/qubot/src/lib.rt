@@ -10,7 +10,7 @@ use circuit_check::check;
 use least::least_of;
 use qubot_left::answer::answer_of;
 use qubot_left::{Finished, LentTables};
-use units::Form;
+use units::{Form, lesser};
 use whole::fill_tables;
 
 pub mod least;
@@ -30,7 +30,7 @@ pub fn build(circuit: &[u8], form: Form, tables: &mut LentTables) -> Result<Fini
         tables.has_row.len(),
         tables.fixed.len(),
     );
-    let pairs = tables.keys.len().min(tables.weights.len());
+    let pairs = lesser(tables.keys.len(), tables.weights.len());
     let k = check(circuit, gates, names, pairs)?;
     let filled = fill_tables(circuit, form, k, tables);
     answer_of(form, k, filled)

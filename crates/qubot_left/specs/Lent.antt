@@ -1,6 +1,6 @@
 -- The nine lent tables as one value of the code.
 -- Assumes nothing: these are definitions.
-use Rattle.std.specs.Prelude.{◌≡◌}
+use Rattle.std.specs.Prelude.{◌≡◌, length}
 use Rattle.qubot_fill.specs.Tables.{Tables, lent}
 use Rattle.qubot_left.specs.declared.LentTables.{LentTables}
 
@@ -12,7 +12,7 @@ lent_in t =
     t.keys.now
     t.weights.now
 
--- they are still the tables that were lent
+-- they are still the tables that were lent, each as long as before
 pub record SameTables (old new : LentTables) : Type 0 where
   pub qubits : new.qubits.ghost_name ≡ old.qubits.ghost_name
   pub origins : new.origins.ghost_name ≡ old.origins.ghost_name
@@ -23,3 +23,12 @@ pub record SameTables (old new : LentTables) : Type 0 where
   pub fixed : new.fixed.ghost_name ≡ old.fixed.ghost_name
   pub keys : new.keys.ghost_name ≡ old.keys.ghost_name
   pub weights : new.weights.ghost_name ≡ old.weights.ghost_name
+  pub qubits_long : length new.qubits.now ≡ length old.qubits.now
+  pub origins_long : length new.origins.now ≡ length old.origins.now
+  pub roles_long : length new.roles.now ≡ length old.roles.now
+  pub linear_long : length new.linear.now ≡ length old.linear.now
+  pub has_linear_long : length new.has_linear.now ≡ length old.has_linear.now
+  pub has_row_long : length new.has_row.now ≡ length old.has_row.now
+  pub fixed_long : length new.fixed.now ≡ length old.fixed.now
+  pub keys_long : length new.keys.now ≡ length old.keys.now
+  pub weights_long : length new.weights.now ≡ length old.weights.now

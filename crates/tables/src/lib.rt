@@ -16,7 +16,7 @@ pub fn clear_names(qubits: &mut [u16], origins: &mut [u16], roles: &mut [u8])
 {
     qubits.fill(0);
     origins.fill(0);
-    roles.fill(0);
+    fill_u8(roles, 0);
 }
 
 // The tables of the model.
@@ -31,9 +31,9 @@ pub fn clear_model(
     ensures { (linear.new ≡ replicate (length linear.old) (pos 0)) × (present.new ≡ replicate (length present.old) 0) × (rows.new ≡ replicate (length rows.old) 0) × (fixed.new ≡ replicate (length fixed.old) 0) × (keys.new ≡ replicate (length keys.old) 0) × (weights.new ≡ replicate (length weights.old) (pos 0)) }
 {
     linear.fill(0);
-    present.fill(0);
-    rows.fill(0);
-    fixed.fill(0);
+    fill_u8(present, 0);
+    fill_u8(rows, 0);
+    fill_u8(fixed, 0);
     keys.fill(0);
     weights.fill(0);
 }
